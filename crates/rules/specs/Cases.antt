@@ -1,0 +1,176 @@
+-- The marked cases M1 to M12: each is its calls from fresh tables, every report of them, and what the tables then show (document 01, "Marked cases").
+use Prim.Native.Nat.{ℕ, zero, suc, _+_, _-_, _^_}
+use mathlib.Core.List.{List, [], _∷_, _++_, map}
+use lib.ListN.{length}
+use Rattle.rules.specs.declared.Report.{Report}
+use Rattle.rules.specs.declared.Report.the-variants as report
+use Rattle.rules.specs.Words.{pick, limits, chunkNo, entryNo, get, put, putIfAbsent, compute, remove, scan}
+use Rattle.rules.specs.Tables.{Tables, task, chunk, entry}
+use Rattle.rules.specs.Rebalance.{Outcome, namingFrom}
+use Rattle.rules.specs.Shape.{liveCount, shape}
+use Rattle.rules.specs.Calls.{fresh, Call, does}
+use Rattle.rules.specs.Calls.Call.{start, step, begin, rebalance}
+
+-- a call with its report, or a number that the tables then show
+pub data Line : Type 0 where
+  reports : Call → Report → Line
+  shows : (Tables → ℕ) → ℕ → Line
+
+pub data Said : Type 0 where
+  heard : Report → Said
+  seen : ℕ → Said
+
+-- what a case says, line by line
+abbrev pub says : Line → Said
+says (reports c r) = heard r
+says (shows v n) = seen n
+
+-- what the rules say, from the tables on
+unfoldable pub runs : Tables → List Line → List Said
+runs s [] = []
+runs s (reports c r ∷ l) = let o = does limits s c in heard (o .report) ∷ runs (o .tables) l
+runs s (shows v n ∷ l) = seen (v s) ∷ runs s l
+
+-- the tables have the shape
+abbrev pub shaped : Line
+shaped = shows (λ s. pick (shape limits s) 1 0) 1
+
+-- ---- lines
+-- so many steps of the task that each move on
+unfoldable pub moves : ℕ → ℕ → List Line
+moves n zero = []
+moves n (suc many) = reports (step n) report.Moved ∷ moves n many
+
+-- an operation of the task that finishes with the answer at the step of that number, and no earlier
+abbrev pub finishes : ℕ → ℕ → ℕ → ℕ → ℕ → ℕ → Report → List Line
+finishes n op k a f steps answer = reports (start n op k a f) report.Moved ∷ moves n (steps - 1) ++ reports (step n) answer ∷ shaped ∷ []
+
+-- an insertion alone, nine steps, and the handle that it takes at the fifth
+abbrev pub takes : ℕ → ℕ → ℕ → ℕ → ℕ → Report → List Line
+takes n op k a h answer =
+    reports (start n op k a 0) report.Moved ∷ moves n 5 ++ shows (λ s. task s n .new .0) h ∷ moves n 3 ++ reports (step n) answer ∷ shaped ∷ []
+
+-- puts of the keys 1 to n, each into a slot of its own
+unfoldable pub puts : ℕ → List Line
+puts zero = []
+puts (suc n) = puts n ++ finishes 0 put (suc n) 7 0 9 report.Done
+
+-- a rebalance of the chunk that has key 1, through swap in
+abbrev pub swapped : List Line
+swapped = reports (begin 1) report.Moved ∷ reports rebalance report.Moved ∷ reports rebalance report.Moved ∷ reports rebalance report.Moved ∷ shaped ∷ []
+
+-- ---- what is shown of a chunk
+abbrev pub used : ℕ → Tables → ℕ
+used c s = chunk s (chunkNo c) .used
+
+-- how many of its linked entries name a handle
+abbrev pub naming : ℕ → Tables → ℕ
+naming c s = length (namingFrom limits (s .entries) (chunkNo c) 32 (chunk s (chunkNo c) .head))
+
+abbrev pub minKey : ℕ → Tables → ℕ
+minKey c s = chunk s (chunkNo c) .min
+
+abbrev pub firstKey : ℕ → Tables → ℕ
+firstKey c s = entry limits s (chunkNo c) (chunk s (chunkNo c) .head) .key
+
+abbrev pub lives : Tables → ℕ
+lives s = liveCount (s .chunks)
+
+-- ---- the cases
+abbrev pub m1 : List Line
+m1 = finishes 0 get 5 0 0 2 report.Absent
+
+abbrev pub m2 : List Line
+m2 = takes 0 putIfAbsent 5 50 0 report.True
+
+abbrev pub m3 : List Line
+m3 = m2 ++ finishes 0 put 5 60 0 5 report.Done ++ finishes 0 get 5 0 0 4 (report.Value 60)
+
+abbrev pub m4 : List Line
+m4 = m2 ++ finishes 0 remove 5 0 0 11 report.True ++ finishes 0 remove 5 0 0 3 report.False
+
+abbrev pub m5 : List Line
+m5 = finishes 0 put 5 (2 ^ 64 - 1) 0 9 report.Done ++ finishes 0 compute 5 1 1 5 report.True ++ finishes 0 get 5 0 0 4 (report.Value 0)
+
+abbrev pub m6 : List Line
+m6 =
+    m2
+    ++ reports (start 0 get 5 0 0) report.Moved
+    ∷ moves 0 3
+    ++ finishes 1 remove 5 0 0 11 report.True
+    ++ takes 2 put 9 90 1 report.Done
+    ++ reports (step 0) report.Absent
+    ∷ takes 3 put 11 110 0 report.Done
+
+abbrev pub m7 : List Line
+m7 =
+    reports (start 0 putIfAbsent 7 70 0) report.Moved
+    ∷ reports (start 1 putIfAbsent 7 71 0) report.Moved
+    ∷ moves 0 2
+    ++ moves 1 8
+    ++ reports (step 1) report.True
+    ∷ moves 0 6
+    ++ reports (step 0) report.Lost
+    ∷ moves 0 3
+    ++ reports (step 0) report.False
+    ∷ shows (used 0) 2
+    ∷ shows (naming 0) 1
+    ∷ shaped
+    ∷ []
+
+abbrev pub m8 : List Line
+m8 =
+    reports (start 0 put 5 50 0) report.Moved
+    ∷ moves 0 7
+    ++ reports (begin 5) report.Moved
+    ∷ reports rebalance report.Waiting
+    ∷ moves 0 1
+    ++ reports (step 0) report.Done
+    ∷ reports rebalance report.Moved
+    ∷ reports rebalance report.Moved
+    ∷ shows (naming 1) 1
+    ∷ shows (firstKey 1) 5
+    ∷ shaped
+    ∷ []
+
+abbrev pub m9 : List Line
+m9 =
+    reports (start 0 get 5 0 0) report.Moved
+    ∷ moves 0 1
+    ++ swapped
+    ++ finishes 1 put 5 50 0 9 report.Done
+    ++ reports rebalance report.Waiting
+    ∷ reports (step 0) report.Absent
+    ∷ reports rebalance report.Finished
+    ∷ shaped
+    ∷ []
+
+abbrev pub m10 : List Line
+m10 = puts 16 ++ swapped ++ shows lives 1 ∷ shows (naming 1) 16 ∷ shows (minKey 1) 0 ∷ []
+
+abbrev pub m10two : List Line
+m10two =
+    puts 17
+    ++ swapped
+    ++ shows lives 2
+    ∷ shows (naming 1) 9
+    ∷ shows (naming 2) 8
+    ∷ shows (minKey 1) 0
+    ∷ shows (minKey 2) 10
+    ∷ []
+
+abbrev pub m11 : List Line
+m11 = puts 32 ++ shows (used 0) 32 ∷ finishes 1 put 99 1 0 3 report.Full
+
+abbrev pub m12 : List Line
+m12 =
+    m2
+    ++ reports (start 0 scan 0 10 0) report.Moved
+    ∷ reports (step 0) (report.Pair 5 50)
+    ∷ reports (step 0) report.Done
+    ∷ finishes 0 scan 5 5 0 1 report.Done
+    ++ reports (start 0 scan 6 5 0) (report.Refused 4)
+    ∷ []
+
+abbrev pub markedCases : List (List Line)
+markedCases = m1 ∷ m2 ∷ m3 ∷ m4 ∷ m5 ∷ m6 ∷ m7 ∷ m8 ∷ m9 ∷ m10 ∷ m10two ∷ m11 ∷ m12 ∷ []

@@ -1,0 +1,10 @@
+pub mod Words
+pub mod Told
+pub mod Tables
+pub mod Walks
+pub mod Stages
+pub mod Rebalance
+pub mod Shape
+pub mod Calls
+pub mod Map
+pub mod Cases

@@ -1,0 +1,202 @@
+-- The shape that every call tests first, and refuses by 10 where it fails (document 01, "Shape, checked by every call first").
+use Prim.Native.Nat.{ℕ, zero, suc, _+_, _*_}
+use mathlib.Core.Bool.{Bool, true, false, not}
+use mathlib.Core.List.{List, [], _∷_}
+use lib.Dec.{eqb, ltb, leb}
+use lib.ListN.{length, getD, take, drop}
+use Rattle.rules.specs.declared.Sizes.{Sizes}
+use Rattle.rules.specs.declared.Directory.{Directory}
+use Rattle.rules.specs.declared.Task.{Task}
+use Rattle.rules.specs.declared.Chunk.{Chunk}
+use Rattle.rules.specs.declared.Entry.{Entry}
+use Rattle.rules.specs.declared.ChunkNo.{ChunkNo}
+use Rattle.rules.specs.declared.EntryNo.{EntryNo}
+use Rattle.rules.specs.declared.HandleNo.{HandleNo}
+use Rattle.rules.specs.Words.{pick, _and_, _or_, NONE, chunkNo, entryNo, noChunk, noEntry, unused, live, new, retired, get, put, putIfAbsent, upsert, compute, remove, scan, usesFunction, idle, toDrain, toCopy, toSwap, toRelease}
+use Rattle.rules.specs.Tables.{Tables, idleTask, emptyChunk, emptyEntry, task, chunk, chunkAt, entry, entryAt}
+use Rattle.rules.specs.Rebalance.{unusedCount}
+
+-- ---- tests on lists
+-- the test holds of each row, and of its number, from n on
+unfoldable pub each : {A : Type 0} → (ℕ → A → Bool) → ℕ → List A → Bool
+each p n [] = true
+each p n (x ∷ l) = let on = each p (n + 1) l in pick (p n x) on false
+
+-- a chunk's slots
+abbrev pub slotsOf : Sizes → List Entry → ChunkNo → List Entry
+slotsOf z es c = take (z .entries) (drop (c .0 * z .entries) es)
+
+-- ---- rows of 0 and none
+abbrev pub isNone : ℕ → Bool
+isNone n = eqb n NONE
+
+-- a number of a table of that size, or none
+abbrev pub numbers : ℕ → ℕ → Bool
+numbers size n = ltb n size or isNone n
+
+abbrev pub isEmptyEntry : Entry → Bool
+isEmptyEntry x = eqb (x .key) 0 and isNone (x .handle .0) and isNone (x .next .0)
+
+abbrev pub isEmptyChunk : Chunk → Bool
+isEmptyChunk x = eqb (x .status) 0 and eqb (x .frozen) 0 and eqb (x .min) 0 and isNone (x .next .0) and isNone (x .head .0) and eqb (x .used) 0
+
+abbrev pub holdsNothing : Task → Bool
+holdsNothing t = isNone (t .chunk .0) and isNone (t .entry .0) and isNone (t .old .0) and isNone (t .new .0) and eqb (t .published) 0 and eqb (t .swapped) 0
+
+abbrev pub isIdle : Task → Bool
+isIdle t = eqb (t .operation) 0 and eqb (t .function) 0 and eqb (t .key) 0 and eqb (t .argument) 0 and holdsNothing t
+
+-- ---- "each stage is known, holds what the stage list says": what each of the 23 stages must hold and may hold
+pub record Hold : Type 0 where
+  pub chunk : ℕ
+  pub entry : ℕ
+  pub old : ℕ
+  pub new : ℕ
+  pub published : ℕ
+  pub swapped : ℕ
+
+-- 0 holds it never, 1 always, 2 perhaps
+abbrev pub hold : ℕ → ℕ → ℕ → ℕ → ℕ → ℕ → Hold
+hold c e o n p w = record { chunk = c; entry = e; old = o; new = n; published = p; swapped = w }
+
+abbrev pub stageList : List Hold
+stageList =
+    hold 0 0 0 0 0 0 ∷ hold 0 0 0 0 0 0 ∷ hold 1 0 0 0 0 0 ∷ hold 1 1 0 0 0 0
+    ∷ hold 1 1 1 0 0 0 ∷ hold 1 1 1 0 0 0 ∷ hold 1 0 0 0 0 0 ∷ hold 1 1 0 0 0 0
+    ∷ hold 1 1 2 0 0 0 ∷ hold 1 1 2 1 0 0 ∷ hold 1 1 2 1 0 0 ∷ hold 1 1 2 1 1 0
+    ∷ hold 1 1 2 1 1 2 ∷ hold 1 1 1 0 0 0 ∷ hold 1 1 1 0 1 0 ∷ hold 1 1 1 0 1 2
+    ∷ hold 0 0 1 0 0 0 ∷ hold 1 0 1 0 0 0 ∷ hold 1 1 1 0 0 0 ∷ hold 1 1 1 0 0 0
+    ∷ hold 1 1 1 0 1 0 ∷ hold 1 1 1 0 1 0 ∷ hold 0 0 0 0 0 0 ∷ []
+
+-- a number is held as the list says: never: none; always: of its table; perhaps: either
+abbrev pub heldAs : ℕ → ℕ → ℕ → Bool
+heldAs how size n = pick (eqb how 0) (isNone n) (pick (eqb how 1) (ltb n size) (numbers size n))
+
+abbrev pub flagAs : ℕ → ℕ → Bool
+flagAs how n = pick (eqb how 2) (leb n 1) (eqb n how)
+
+-- "and fits its operation"
+abbrev pub fitsOperation : ℕ → ℕ → Bool
+fitsOperation op n =
+    pick (eqb op get) (leb 1 n and leb n 4)
+    (pick (eqb op putIfAbsent) ((leb 1 n and leb n 4) or (leb 6 n and leb n 12))
+    (pick (eqb op put or eqb op upsert) (leb 1 n and leb n 12)
+    (pick (eqb op compute) ((leb 1 n and leb n 5) or (leb 13 n and leb n 15))
+    (pick (eqb op remove) ((leb 1 n and leb n 5) or (leb 13 n and leb n 21))
+    (pick (eqb op scan) (eqb n 22) false)))))
+
+-- ---- walks
+unfoldable pub liveCount : List Chunk → ℕ
+liveCount [] = 0
+liveCount (x ∷ l) = pick (eqb (x .status) live) (liveCount l + 1) (liveCount l)
+
+module _ (z : Sizes) where
+  -- the list from e on ends within the fuel, is of used entries, and its keys ascend from k on
+  unfoldable pub ascendsFrom : List Entry → ChunkNo → ℕ → ℕ → EntryNo → ℕ → Bool
+  ascendsFrom es c used zero e k = isNone (e .0)
+  ascendsFrom es c used (suc fuel) e k =
+      let on = ascendsFrom es c used fuel (entryAt z es c e .next) (entryAt z es c e .key + 1) in
+      let here = pick (ltb (e .0) used and leb k (entryAt z es c e .key)) on false in
+      pick (isNone (e .0)) true here
+
+  -- how many live chunks stand from c on, their minimum keys ascending from k on; past the table's size where that breaks
+  unfoldable pub chainCount : List Chunk → ℕ → ChunkNo → ℕ → ℕ → ℕ
+  chainCount cs zero c k n = z .chunks + 1
+  chainCount cs (suc fuel) c k n =
+      let on = chainCount cs fuel (chunkAt cs c .next) (chunkAt cs c .min + 1) (n + 1) in
+      let here = pick (eqb (chunkAt cs c .status) live and leb k (chunkAt cs c .min)) (pick (isNone (chunkAt cs c .next .0)) (n + 1) on) (z .chunks + 1) in
+      pick (ltb (c .0) (z .chunks)) here (z .chunks + 1)
+
+  -- x is linked, from e on
+  unfoldable pub linkedFrom : List Entry → ChunkNo → ℕ → EntryNo → EntryNo → Bool
+  linkedFrom es c zero e x = false
+  linkedFrom es c (suc fuel) e x =
+      let on = linkedFrom es c fuel (entryAt z es c e .next) x in
+      pick (ltb (e .0) (z .entries)) (pick (eqb (e .0) (x .0)) true on) false
+
+module _ (z : Sizes) (s : Tables) where
+  -- ---- the tables' lengths
+  abbrev pub sized : Bool
+  sized =
+      eqb (length (s .tasks)) (z .tasks)
+      and eqb (length (s .chunks)) (z .chunks)
+      and eqb (length (s .entries)) (z .chunks * z .entries)
+      and eqb (length (s .values)) (z .handles)
+      and eqb (length (s .marks)) (z .handles)
+
+  -- ---- "each number lies in its table or is none where none is allowed"; a mark, a status, a count lies in its range
+  abbrev pub chunkNumbers : Chunk → Bool
+  chunkNumbers x = leb (x .status) retired and leb (x .frozen) 1 and numbers (z .chunks) (x .next .0) and numbers (z .entries) (x .head .0) and leb (x .used) (z .entries)
+
+  -- ---- "linked entries are used ones, and unused chunks, unused slots hold only 0 and none; each chunk's list ends within 32 entries, keys strictly ascending"
+  abbrev pub slotRight : ℕ → ℕ → Entry → Bool
+  slotRight used e x = pick (ltb e used) (numbers (z .handles) (x .handle .0) and numbers (z .entries) (x .next .0)) (isEmptyEntry x)
+
+  abbrev pub chunkRight : ℕ → Chunk → Bool
+  chunkRight n x =
+      let list = ascendsFrom z (s .entries) (chunkNo n) (x .used) (z .entries) (x .head) 0 in
+      let row = pick (eqb (x .status) unused) (isEmptyChunk x) (chunkNumbers x) in
+      let slots = each (slotRight (x .used)) 0 (slotsOf z (s .entries) (chunkNo n)) in
+      row and slots and list
+
+  -- ---- "the chain from the first live chunk holds every live chunk and no other, from key 0, minimum keys strictly ascending": every one, since it has as many as there are
+  abbrev pub chained : Bool
+  chained = eqb (chunk s (s .directory .first) .min) 0 and eqb (chainCount z (s .chunks) (z .chunks) (s .directory .first) 0 0) (liveCount (s .chunks))
+
+  -- ---- the tasks
+  -- "a held chunk is in use, a held entry used, with the task's key, linked except at 7", where it may be either
+  abbrev pub holdsEntry : Task → Bool
+  holdsEntry t =
+      let linked = linkedFrom z (s .entries) (t .chunk) (z .entries) (chunk s (t .chunk) .head) (t .entry) in
+      ltb (t .entry .0) (chunk s (t .chunk) .used) and eqb (entry z s (t .chunk) (t .entry) .key) (t .key) and pick (eqb (t .stage) 7) true linked
+
+  abbrev pub holdsRight : Task → Hold → Bool
+  holdsRight t h =
+      let there = holdsEntry t in
+      heldAs (h .chunk) (z .chunks) (t .chunk .0)
+      and heldAs (h .entry) (z .entries) (t .entry .0)
+      and heldAs (h .old) (z .handles) (t .old .0)
+      and heldAs (h .new) (z .handles) (t .new .0)
+      and flagAs (h .published) (t .published)
+      and flagAs (h .swapped) (t .swapped)
+      and pick (eqb (h .chunk) 0) true (ltb 0 (chunk s (t .chunk) .status))
+      and pick (eqb (h .entry) 0) true there
+
+  abbrev pub taskRight : ℕ → Task → Bool
+  taskRight n t =
+      let busy = fitsOperation (t .operation) (t .stage) and pick (usesFunction (t .operation)) (leb 1 (t .function) and leb (t .function) 3) true and holdsRight t (getD stageList (t .stage) (hold 0 0 0 0 0 0)) in
+      pick (eqb (t .stage) 0) (isIdle t) busy
+
+  -- ---- "A rebalancer's chunks must fit its stage"
+  -- the chunk is its old one, one of its new ones, or neither: "No other is frozen, new or retired"
+  abbrev pub chunkFits : Directory → ℕ → Chunk → Bool
+  chunkFits d n x =
+      let isOld = eqb (d .old .0) n in
+      let isNew = eqb (d .new .0) n or eqb (d .second .0) n in
+      eqb (x .frozen) (pick isOld 1 0)
+      and pick isOld (eqb (x .status) (pick (eqb (d .stage) toRelease) retired live))
+      (pick isNew (eqb (x .status) (pick (eqb (d .stage) toRelease) live new))
+      (eqb (x .status) unused or eqb (x .status) live))
+
+  -- two unused chunks before copy; after it one or two new ones, no chunk twice
+  abbrev pub rebalanceFits : Bool
+  rebalanceFits =
+      let d = s .directory in
+      let none = isNone (d .new .0) and isNone (d .second .0) in
+      let before = none and ltb (d .old .0) (z .chunks) and leb 2 (unusedCount (s .chunks)) in
+      let after = ltb (d .old .0) (z .chunks) and ltb (d .new .0) (z .chunks) and numbers (z .chunks) (d .second .0) and not (eqb (d .new .0) (d .second .0)) in
+      let stages =
+      pick (eqb (d .stage) idle) (isNone (d .old .0) and none)
+      (pick (eqb (d .stage) toDrain or eqb (d .stage) toCopy) before
+      (pick (eqb (d .stage) toSwap or eqb (d .stage) toRelease) after false)) in
+      stages and each (chunkFits d) 0 (s .chunks)
+
+  -- ---- all of it
+  unfoldable pub shape : Bool
+  shape =
+      let marks = each (λ n m. leb m 1) 0 (s .marks) in
+      let chunks = each chunkRight 0 (s .chunks) in
+      let tasks = each taskRight 0 (s .tasks) in
+      let rebalance = rebalanceFits in
+      let chain = chained in
+      sized and marks and ltb (s .directory .first .0) (z .chunks) and chunks and chain and tasks and rebalance

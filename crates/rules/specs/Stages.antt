@@ -1,0 +1,237 @@
+-- The stages of a task: for each, what its row becomes, what changes elsewhere, and the report (document 01, "Stages of a task").
+use Prim.Native.Nat.{ℕ, _+_, _%_, _^_, max}
+use mathlib.Core.Bool.{Bool, true, false}
+use mathlib.Core.List.{List}
+use lib.Dec.{eqb, ltb, leb}
+use lib.Bits.{bitOr}
+use Rattle.rules.specs.declared.Sizes.{Sizes}
+use Rattle.rules.specs.declared.Task.{Task}
+use Rattle.rules.specs.declared.Chunk.{Chunk}
+use Rattle.rules.specs.declared.Entry.{Entry}
+use Rattle.rules.specs.declared.ChunkNo.{ChunkNo}
+use Rattle.rules.specs.declared.EntryNo.{EntryNo}
+use Rattle.rules.specs.declared.HandleNo.{HandleNo}
+use Rattle.rules.specs.declared.Write.{Write}
+use Rattle.rules.specs.declared.Write.the-variants as write
+use Rattle.rules.specs.declared.Report.{Report}
+use Rattle.rules.specs.declared.Report.the-variants as report
+use Rattle.rules.specs.declared.Decision.{Decision}
+use Rattle.rules.specs.Words.{pick, _and_, _or_, noChunk, noEntry, noHandle, entryNo, get, put, putIfAbsent, upsert, compute, remove, inserts}
+use Rattle.rules.specs.Tables.{Tables, idleTask, emptyEntry, chunk, putChunk, entry, putEntry, value, putValue, mark, putMark, putTask}
+use Rattle.rules.specs.Walks.{locate, find, place, firstPresent, lowestFree}
+
+-- ---- a task's row afterwards
+-- the operation goes on at a stage, holding what is named
+abbrev pub goesTo : Task → ℕ → ChunkNo → EntryNo → HandleNo → HandleNo → ℕ → ℕ → Task
+goesTo t n c e o h p w = record { stage = n; operation = t .operation; function = t .function; key = t .key; argument = t .argument; chunk = c; entry = e; old = o; new = h; published = p; swapped = w }
+
+-- the same holds, at another stage
+abbrev pub keeps : Task → ℕ → Task
+keeps t n = goesTo t n (t .chunk) (t .entry) (t .old) (t .new) (t .published) (t .swapped)
+
+-- a scan goes on from another cursor
+abbrev pub cursorAt : Task → ℕ → Task
+cursorAt t k = record { stage = t .stage; operation = t .operation; function = t .function; key = k; argument = t .argument; chunk = t .chunk; entry = t .entry; old = t .old; new = t .new; published = t .published; swapped = t .swapped }
+
+-- ---- a stage's outcome
+abbrev pub moves : Task → Write → Decision
+moves t w = record { task = t; write = w; report = report.Moved }
+
+abbrev pub restarts : Task → Report → Decision
+restarts t why = record { task = goesTo t 1 noChunk noEntry noHandle noHandle 0 0; write = write.Nothing; report = why }
+
+abbrev pub finishes : Write → Report → Decision
+finishes w answer = record { task = idleTask; write = w; report = answer }
+
+-- get answers absent; compute and remove answer false
+abbrev pub finishesAbsent : Task → Decision
+finishesAbsent t = finishes write.Nothing (pick (eqb (t .operation) get) report.Absent report.False)
+
+-- the functions of upsert and compute: add modulo 2^64, the larger, bitwise or
+abbrev pub applied : ℕ → ℕ → ℕ → ℕ
+applied f amount v = pick (eqb f 1) ((v + amount) % 2 ^ 64) (pick (eqb f 2) (max v amount) (bitOr v amount))
+
+module _ (z : Sizes) (s : Tables) (t : Task) where
+  -- 1 locate, and 16 for a remove that has set its mark: the live chunk whose range has the key
+  abbrev pub locates : Decision
+  locates = moves (goesTo t (t .stage + 1) (locate z s (t .key)) noEntry (t .old) noHandle 0 0) write.Nothing
+
+  -- 2 find
+  abbrev pub finds : Decision
+  finds =
+      let e = find z s (t .chunk) (t .key) in
+      pick (ltb (e .0) (z .entries))
+      (moves (goesTo t 3 (t .chunk) e noHandle noHandle 0 0) write.Nothing)
+      (pick (inserts (t .operation)) (moves (keeps t 6) write.Nothing) (finishesAbsent t))
+
+  -- 3 read
+  abbrev pub reads : Decision
+  reads =
+      let h = entry z s (t .chunk) (t .entry) .handle in
+      pick (ltb (h .0) (z .handles))
+      (moves (goesTo t 4 (t .chunk) (t .entry) h noHandle 0 0) write.Nothing)
+      (pick (inserts (t .operation)) (moves (keeps t 8) write.Nothing) (finishesAbsent t))
+
+  -- 4 check
+  abbrev pub checks : Decision
+  checks =
+      pick (eqb (mark s (t .old)) 0)
+      (pick (eqb (t .operation) get)
+      (finishes write.Nothing (report.Value (value s (t .old))))
+      (pick (eqb (t .operation) putIfAbsent) (finishes write.Nothing report.False) (moves (keeps t 5) write.Nothing)))
+      (pick (eqb (t .operation) get)
+      (finishesAbsent t)
+      (moves (keeps t (pick (inserts (t .operation)) 8 13)) write.Nothing))
+
+  -- 5 apply
+  abbrev pub applies : Decision
+  applies =
+      pick (eqb (mark s (t .old)) 0)
+      (pick (eqb (t .operation) remove)
+      (moves (goesTo t 16 noChunk noEntry (t .old) noHandle 0 0) (write.Delete (t .old)))
+      (pick (eqb (t .operation) put)
+      (finishes (write.Store (t .old) (t .argument)) report.Done)
+      (finishes (write.Store (t .old) (applied (t .function) (t .argument) (value s (t .old)))) (pick (eqb (t .operation) compute) report.True report.Done))))
+      (pick (inserts (t .operation)) (restarts t report.Lost) (moves (keeps t 13) write.Nothing))
+
+  -- 6 take entry
+  abbrev pub takesEntry : Decision
+  takesEntry =
+      pick (eqb (chunk s (t .chunk) .frozen) 0)
+      (pick (ltb (chunk s (t .chunk) .used) (z .entries))
+      (moves (goesTo t 7 (t .chunk) (entryNo (chunk s (t .chunk) .used)) noHandle noHandle 0 0) (write.Slot (t .chunk) (t .key)))
+      (restarts t report.Full))
+      (restarts t report.Frozen)
+
+  -- 7 link
+  abbrev pub links : Decision
+  links =
+      let other = find z s (t .chunk) (t .key) in
+      let before = place z s (t .chunk) (t .key) in
+      pick (eqb (chunk s (t .chunk) .frozen) 0)
+      (pick (ltb (other .0) (z .entries))
+      (moves (goesTo t 8 (t .chunk) other noHandle noHandle 0 0) write.Nothing)
+      (moves (keeps t 8) (write.Link (t .chunk) (t .entry) before)))
+      (restarts t report.Frozen)
+
+  -- 8 take handle
+  abbrev pub takesHandle : Decision
+  takesHandle =
+      let h = lowestFree z s in
+      pick (ltb (h .0) (z .handles))
+      (moves (goesTo t 9 (t .chunk) (t .entry) (t .old) h 0 0) (write.Fresh h))
+      (finishes write.Nothing (report.Refused 9))
+
+  -- 9 write
+  abbrev pub writes : Decision
+  writes = moves (keeps t 10) (write.Store (t .new) (t .argument))
+
+  -- 10, 13, 19 publish: a frozen chunk sends the operation back, and a remove that has set its mark to 16
+  abbrev pub publishes : Decision
+  publishes =
+      pick (eqb (chunk s (t .chunk) .frozen) 0)
+      (moves (goesTo t (t .stage + 1) (t .chunk) (t .entry) (t .old) (t .new) 1 0) write.Nothing)
+      (pick (eqb (t .stage) 19) (moves (goesTo t 16 noChunk noEntry (t .old) noHandle 0 0) write.Nothing) (restarts t report.Frozen))
+
+  -- 11, 14, 20 swap, to the new handle at 11 and to none at the others: only where the entry still names the old one, or none where there is none
+  abbrev pub swaps : HandleNo → Decision
+  swaps h =
+      pick (eqb (entry z s (t .chunk) (t .entry) .handle .0) (t .old .0))
+      (moves (goesTo t (t .stage + 1) (t .chunk) (t .entry) (t .old) (t .new) 1 (pick (eqb (t .stage) 20) 0 1)) (write.Name (t .chunk) (t .entry) h))
+      (moves (keeps t (t .stage + 1)) write.Nothing)
+
+  -- 12 unpublish
+  abbrev pub endsInsertion : Decision
+  endsInsertion = pick (eqb (t .swapped) 0) (restarts t report.Lost) (finishes write.Nothing (pick (eqb (t .operation) putIfAbsent) report.True report.Done))
+
+  -- 15 unpublish
+  abbrev pub endsAbsent : Decision
+  endsAbsent = pick (eqb (t .swapped) 0) (restarts t report.Lost) (finishesAbsent t)
+
+  -- 17 find again
+  abbrev pub findsAgain : Decision
+  findsAgain =
+      let e = find z s (t .chunk) (t .key) in
+      pick (ltb (e .0) (z .entries))
+      (moves (goesTo t 18 (t .chunk) e (t .old) noHandle 0 0) write.Nothing)
+      (finishes write.Nothing report.True)
+
+  -- 18 read again
+  abbrev pub readsAgain : Decision
+  readsAgain = pick (eqb (entry z s (t .chunk) (t .entry) .handle .0) (t .old .0)) (moves (keeps t 19) write.Nothing) (finishes write.Nothing report.True)
+
+  -- 21 unpublish
+  abbrev pub endsRemove : Decision
+  endsRemove = finishes write.Nothing report.True
+
+  -- 22 scan
+  abbrev pub scans : Decision
+  scans =
+      let c = locate z s (t .key) in
+      let e = firstPresent z s c (t .key) (t .argument) in
+      let x = entry z s c e in
+      let pair : Decision = record { task = cursorAt t (x .key + 1); write = write.Nothing; report = report.Pair (x .key) (value s (x .handle)) } in
+      let on = pick (ltb (chunk s c .next .0) (z .chunks)) (moves (cursorAt t (chunk s (chunk s c .next) .min)) write.Nothing) (finishes write.Nothing report.Done) in
+      let walked = pick (ltb (e .0) (z .entries)) pair on in
+      pick (leb (t .argument) (t .key)) (finishes write.Nothing report.Done) walked
+
+  -- 0, and a number that is no stage
+  abbrev pub stays : Decision
+  stays = record { task = t; write = write.Nothing; report = report.Refused 3 }
+
+-- what the stage of that number does
+unfoldable pub stageDoes : ℕ → Sizes → Tables → Task → Decision
+stageDoes n =
+    pick (eqb n 1 or eqb n 16) locates
+    (pick (eqb n 2) finds
+    (pick (eqb n 3) reads
+    (pick (eqb n 4) checks
+    (pick (eqb n 5) applies
+    (pick (eqb n 6) takesEntry
+    (pick (eqb n 7) links
+    (pick (eqb n 8) takesHandle
+    (pick (eqb n 9) writes
+    (pick (eqb n 10 or eqb n 13 or eqb n 19) publishes
+    (pick (eqb n 11) (λ z s t. swaps z s t (t .new))
+    (pick (eqb n 14 or eqb n 20) (λ z s t. swaps z s t noHandle)
+    (pick (eqb n 12) endsInsertion
+    (pick (eqb n 15) endsAbsent
+    (pick (eqb n 17) findsAgain
+    (pick (eqb n 18) readsAgain
+    (pick (eqb n 21) endsRemove
+    (pick (eqb n 22) scans stays)))))))))))))))))
+
+abbrev pub decide : Sizes → Tables → Task → Decision
+decide z s t = stageDoes (t .stage) z s t
+
+-- ---- what a write does to the tables
+abbrev pub applySlot : Sizes → Tables → ChunkNo → ℕ → Tables
+applySlot z s c k =
+    let x = chunk s c in
+    putEntry z
+    (putChunk s c (record { status = x .status; frozen = x .frozen; min = x .min; next = x .next; head = x .head; used = x .used + 1 }))
+    c (entryNo (x .used)) (record { key = k; handle = noHandle; next = noEntry })
+
+abbrev pub withNext : Entry → EntryNo → Entry
+withNext x e = record { key = x .key; handle = x .handle; next = e }
+
+abbrev pub withHandle : Entry → HandleNo → Entry
+withHandle x h = record { key = x .key; handle = h; next = x .next }
+
+abbrev pub withHead : Chunk → EntryNo → Chunk
+withHead x e = record { status = x .status; frozen = x .frozen; min = x .min; next = x .next; head = e; used = x .used }
+
+abbrev pub applyLink : Sizes → Tables → ChunkNo → EntryNo → EntryNo → Tables
+applyLink z s c e before =
+    let atHead = putChunk (putEntry z s c e (withNext (entry z s c e) (chunk s c .head))) c (withHead (chunk s c) e) in
+    let after = putEntry z (putEntry z s c e (withNext (entry z s c e) (entry z s c before .next))) c before (withNext (entry z s c before) e) in
+    pick (ltb (before .0) (z .entries)) after atHead
+
+abbrev pub apply : Sizes → Tables → Write → Tables
+apply z s write.Nothing = s
+apply z s (write.Slot c k) = applySlot z s c k
+apply z s (write.Link c e before) = applyLink z s c e before
+apply z s (write.Fresh h) = putMark (putValue s h 0) h 0
+apply z s (write.Store h v) = putValue s h v
+apply z s (write.Delete h) = putMark s h 1
+apply z s (write.Name c e h) = putEntry z s c e (withHandle (entry z s c e) h)

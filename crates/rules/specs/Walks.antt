@@ -1,0 +1,98 @@
+-- What the tables say: which chunk has a key, which entry of it, what is present, which handle is free (document 01, "What the tables hold").
+-- A walk takes the table that it walks. It has as many steps as its list may have members, and a number past the table ends it, as none does.
+use Prim.Native.Nat.{ℕ, zero, suc, _+_, _*_}
+use mathlib.Core.Bool.{Bool, true, false, not}
+use mathlib.Core.List.{List, [], _∷_}
+use lib.Dec.{eqb, ltb, leb}
+use lib.ListN.{getD}
+use Rattle.rules.specs.declared.Sizes.{Sizes}
+use Rattle.rules.specs.declared.Task.{Task}
+use Rattle.rules.specs.declared.Chunk.{Chunk}
+use Rattle.rules.specs.declared.Entry.{Entry}
+use Rattle.rules.specs.declared.ChunkNo.{ChunkNo}
+use Rattle.rules.specs.declared.EntryNo.{EntryNo}
+use Rattle.rules.specs.declared.HandleNo.{HandleNo}
+use Rattle.rules.specs.Words.{pick, _and_, _or_, NONE, chunkNo, entryNo, handleNo, noChunk, noEntry, noHandle}
+use Rattle.rules.specs.Tables.{Tables, chunkAt, entryAt, chunk}
+
+-- ---- along the live chunks
+module _ (z : Sizes) (cs : List Chunk) where
+  -- the last chunk from c on whose minimum key is at most the key
+  unfoldable pub locateFrom : ℕ → ChunkNo → ℕ → ChunkNo
+  locateFrom zero c k = c
+  locateFrom (suc fuel) c k =
+      let on = locateFrom fuel (chunkAt cs c .next) k in
+      pick (ltb (chunkAt cs c .next .0) (z .chunks) and leb (chunkAt cs (chunkAt cs c .next) .min) k) on c
+
+  -- the chunk from c on whose next is x, or none
+  unfoldable pub beforeFrom : ℕ → ChunkNo → ChunkNo → ChunkNo
+  beforeFrom zero c x = noChunk
+  beforeFrom (suc fuel) c x =
+      let on = beforeFrom fuel (chunkAt cs c .next) x in
+      pick (eqb (chunkAt cs c .next .0) (x .0)) c (pick (ltb (chunkAt cs c .next .0) (z .chunks)) on noChunk)
+
+-- ---- along a chunk's list
+module _ (z : Sizes) (es : List Entry) (c : ChunkNo) where
+  -- the first linked entry from e on with the key, or none
+  unfoldable pub findFrom : ℕ → EntryNo → ℕ → EntryNo
+  findFrom zero e k = noEntry
+  findFrom (suc fuel) e k =
+      let on = findFrom fuel (entryAt z es c e .next) k in
+      pick (ltb (e .0) (z .entries)) (pick (eqb (entryAt z es c e .key) k) e on) noEntry
+
+  -- the last linked entry from e on with a key below k, or the one given
+  unfoldable pub placeFrom : ℕ → EntryNo → EntryNo → ℕ → EntryNo
+  placeFrom zero before e k = before
+  placeFrom (suc fuel) before e k =
+      let on = placeFrom fuel e (entryAt z es c e .next) k in
+      pick (ltb (e .0) (z .entries) and ltb (entryAt z es c e .key) k) on before
+
+-- the handle is one of the table, and its mark is 0
+abbrev pub undeleted : Sizes → List ℕ → HandleNo → Bool
+undeleted z ms h = ltb (h .0) (z .handles) and eqb (getD ms (h .0) 0) 0
+
+-- the first linked entry from e on with a key from..to (to left out) that names an undeleted handle, or none
+module _ (z : Sizes) (es : List Entry) (ms : List ℕ) (c : ChunkNo) (from to : ℕ) where
+  unfoldable pub presentFrom : ℕ → EntryNo → EntryNo
+  presentFrom zero e = noEntry
+  presentFrom (suc fuel) e =
+      let on = presentFrom fuel (entryAt z es c e .next) in
+      pick (ltb (e .0) (z .entries))
+      (pick (leb from (entryAt z es c e .key) and ltb (entryAt z es c e .key) to and undeleted z ms (entryAt z es c e .handle)) e on)
+      noEntry
+
+-- ---- which handle is free
+unfoldable pub namedIn : List Entry → ℕ → Bool
+namedIn [] h = false
+namedIn (x ∷ l) h = let on = namedIn l h in pick (eqb (x .handle .0) h) true on
+
+unfoldable pub heldIn : List Task → ℕ → Bool
+heldIn [] h = false
+heldIn (t ∷ l) h = let on = heldIn l h in pick (eqb (t .old .0) h or eqb (t .new .0) h) true on
+
+-- "free exactly when no entry of a live, new or retired chunk names it and no task holds it": an unused chunk's rows name none
+abbrev pub free : List Entry → List Task → ℕ → Bool
+free es ts h = let held = heldIn ts h in not (pick (namedIn es h) true held)
+
+-- "Taking a handle takes the lowest free number": of those from h on, or none
+unfoldable pub freeFrom : List Entry → List Task → ℕ → ℕ → HandleNo
+freeFrom es ts zero h = noHandle
+freeFrom es ts (suc left) h = let on = freeFrom es ts left (h + 1) in pick (free es ts h) (handleNo h) on
+
+-- ---- the same of all the tables
+module _ (z : Sizes) (s : Tables) where
+  -- the live chunk whose range has the key
+  abbrev pub locate : ℕ → ChunkNo
+  locate k = locateFrom z (s .chunks) (z .chunks) (s .directory .first) k
+
+  abbrev pub find : ChunkNo → ℕ → EntryNo
+  find c k = findFrom z (s .entries) c (z .entries) (chunk s c .head) k
+
+  abbrev pub place : ChunkNo → ℕ → EntryNo
+  place c k = placeFrom z (s .entries) c (z .entries) noEntry (chunk s c .head) k
+
+  abbrev pub firstPresent : ChunkNo → ℕ → ℕ → EntryNo
+  firstPresent c from to = presentFrom z (s .entries) (s .marks) c from to (z .entries) (chunk s c .head)
+
+  abbrev pub lowestFree : HandleNo
+  lowestFree = freeFrom (s .entries) (s .tasks) (z .handles) 0
