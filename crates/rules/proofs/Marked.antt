@@ -2,7 +2,7 @@
 use mathlib.Core.Path.{_≡_, refl}
 use mathlib.Core.List.{map}
 use Rattle.rules.specs.Words.{limits}
-use Rattle.rules.specs.Walks.{locateFrom, beforeFrom, findFrom, placeFrom, presentFrom, namedIn, heldIn, freeFrom}
+use Rattle.rules.specs.Walks.{locateFrom, beforeFrom, listFrom, findFrom, placeFrom, presentFrom, namedIn, heldIn, freeFrom}
 use Rattle.rules.specs.Stages.{stageDoes}
 use Rattle.rules.specs.Rebalance.{unusedCount, unusedFrom, publishedOn, heldChunk, namingFrom, fill, clears, rebalanceDoes}
 use Rattle.rules.specs.Shape.{each, liveCount, ascendsFrom, chainCount, linkedFrom, shape}
@@ -11,5 +11,5 @@ use Rattle.rules.specs.Cases.{says, runs, moves, puts, markedCases}
 
 -- what the rules say of each case, line by line, is what the case says
 pub marked : map (runs (fresh limits)) markedCases ≡ map (map says) markedCases
-unfolding runs moves puts does shape each liveCount ascendsFrom chainCount linkedFrom stageDoes rebalanceDoes locateFrom beforeFrom findFrom placeFrom presentFrom namedIn heldIn freeFrom unusedCount unusedFrom publishedOn heldChunk namingFrom fill clears
+unfolding runs moves puts does shape each liveCount ascendsFrom chainCount linkedFrom stageDoes rebalanceDoes locateFrom beforeFrom listFrom findFrom placeFrom presentFrom namedIn heldIn freeFrom unusedCount unusedFrom publishedOn heldChunk namingFrom fill clears
 marked = refl

@@ -6,6 +6,7 @@ use Rattle.rules.specs.declared.Report.{Report}
 use Rattle.rules.specs.declared.Report.the-variants as report
 use Rattle.rules.specs.Words.{pick, limits, chunkNo, entryNo, get, put, putIfAbsent, compute, remove, scan}
 use Rattle.rules.specs.Tables.{Tables, task, chunk, entry}
+use Rattle.rules.specs.Walks.{linked}
 use Rattle.rules.specs.Rebalance.{Outcome, namingFrom}
 use Rattle.rules.specs.Shape.{liveCount, shape}
 use Rattle.rules.specs.Calls.{fresh, Call, does}
@@ -63,7 +64,11 @@ swapped = reports (begin 1) report.Moved ∷ reports rebalance report.Moved ∷ 
 abbrev pub used : ℕ → Tables → ℕ
 used c s = chunk s (chunkNo c) .used
 
--- how many of its linked entries name a handle
+-- how many entries are linked
+abbrev pub links : ℕ → Tables → ℕ
+links c s = length (linked limits s (chunkNo c))
+
+-- how many of them name a handle
 abbrev pub naming : ℕ → Tables → ℕ
 naming c s = length (namingFrom limits (s .entries) (chunkNo c) 32 (chunk s (chunkNo c) .head))
 
@@ -114,7 +119,7 @@ m7 =
     ∷ moves 0 3
     ++ reports (step 0) report.False
     ∷ shows (used 0) 2
-    ∷ shows (naming 0) 1
+    ∷ shows (links 0) 1
     ∷ shaped
     ∷ []
 

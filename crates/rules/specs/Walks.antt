@@ -1,8 +1,10 @@
 -- What the tables say: which chunk has a key, which entry of it, what is present, which handle is free (document 01, "What the tables hold").
 -- A walk takes the table that it walks. It has as many steps as its list may have members, and a number past the table ends it, as none does.
-use Prim.Native.Nat.{ℕ, zero, suc, _+_, _*_}
+use Prim.Native.Nat.{ℕ, zero, suc, _+_, _<_}
+use mathlib.Core.Path.{_≡_}
+use mathlib.Core.Option.{Option, none, some}
 use mathlib.Core.Bool.{Bool, true, false, not}
-use mathlib.Core.List.{List, [], _∷_}
+use mathlib.Core.List.{List, [], _∷_, List·Memᴰ}
 use lib.Dec.{eqb, ltb, leb}
 use lib.ListN.{getD}
 use Rattle.rules.specs.declared.Sizes.{Sizes}
@@ -12,8 +14,8 @@ use Rattle.rules.specs.declared.Entry.{Entry}
 use Rattle.rules.specs.declared.ChunkNo.{ChunkNo}
 use Rattle.rules.specs.declared.EntryNo.{EntryNo}
 use Rattle.rules.specs.declared.HandleNo.{HandleNo}
-use Rattle.rules.specs.Words.{pick, _and_, _or_, NONE, chunkNo, entryNo, handleNo, noChunk, noEntry, noHandle}
-use Rattle.rules.specs.Tables.{Tables, chunkAt, entryAt, chunk}
+use Rattle.rules.specs.Words.{pick, _and_, _or_, NONE, chunkNo, entryNo, handleNo, noChunk, noEntry, noHandle, live}
+use Rattle.rules.specs.Tables.{Tables, chunkAt, entryAt, chunk, value}
 
 -- ---- along the live chunks
 module _ (z : Sizes) (cs : List Chunk) where
@@ -33,6 +35,11 @@ module _ (z : Sizes) (cs : List Chunk) where
 
 -- ---- along a chunk's list
 module _ (z : Sizes) (es : List Entry) (c : ChunkNo) where
+  -- the linked entries from e on, in order
+  unfoldable pub listFrom : ℕ → EntryNo → List EntryNo
+  listFrom zero e = []
+  listFrom (suc fuel) e = let on = e ∷ listFrom fuel (entryAt z es c e .next) in pick (ltb (e .0) (z .entries)) on []
+
   -- the first linked entry from e on with the key, or none
   unfoldable pub findFrom : ℕ → EntryNo → ℕ → EntryNo
   findFrom zero e k = noEntry
@@ -85,6 +92,9 @@ module _ (z : Sizes) (s : Tables) where
   abbrev pub locate : ℕ → ChunkNo
   locate k = locateFrom z (s .chunks) (z .chunks) (s .directory .first) k
 
+  abbrev pub linked : ChunkNo → List EntryNo
+  linked c = listFrom z (s .entries) c (z .entries) (chunk s c .head)
+
   abbrev pub find : ChunkNo → ℕ → EntryNo
   find c k = findFrom z (s .entries) c (z .entries) (chunk s c .head) k
 
@@ -96,3 +106,22 @@ module _ (z : Sizes) (s : Tables) where
 
   abbrev pub lowestFree : HandleNo
   lowestFree = freeFrom (s .entries) (s .tasks) (z .handles) 0
+
+-- "A key is present when a linked entry of a live chunk names an undeleted handle under it", with that handle's value
+pub record Present (z : Sizes) (s : Tables) (k v : ℕ) : Type 0 where
+  pub chunk : ChunkNo
+  pub entry : EntryNo
+  pub numbered : chunk .0 < z .chunks
+  pub isLive : chunkAt (s .chunks) chunk .status ≡ live
+  pub isLinked : List·Memᴰ entry (linked z s chunk)
+  pub keyed : entryAt z (s .entries) chunk entry .key ≡ k
+  pub isUndeleted : undeleted z (s .marks) (entryAt z (s .entries) chunk entry .handle) ≡ true
+  pub valued : value s (entryAt z (s .entries) chunk entry .handle) ≡ v
+
+-- the same by looking: the value under the key, where the chunk that has it shows one
+unfoldable pub presentAt : Sizes → Tables → ℕ → Option ℕ
+presentAt z s k =
+    let c = locate z s k in
+    let x = entryAt z (s .entries) c (find z s c k) in
+    let seen = pick (undeleted z (s .marks) (x .handle)) (some (value s (x .handle))) none in
+    pick (ltb (find z s c k .0) (z .entries)) seen none
