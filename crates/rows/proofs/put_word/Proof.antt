@@ -1,0 +1,25 @@
+use mathlib.Core.Path.{sym}
+use lib.Seq.{set-out}
+use borrow.Author.Needs.{needs}
+use Rattle.rows.proofs.put_word.Statement.{statement}
+use Rattle.rows.proofs.put_word.Tie as tie
+use Rattle.rows.proofs.put_word.Reads as reads
+use Rattle.rows.proofs.put_word.Lts as lts
+
+mul-words : tie.Need-mul-words
+mul-words c = search needs
+
+slice-write-words : tie.Need-slice-write-words
+slice-write-words c = search needs
+
+same-length : tie.Need-same-length
+same-length c = search needs
+
+returns : tie.Need-returns
+returns c = search needs
+
+returns-2 : tie.Need-returns-2
+returns-2 c = sym (set-out _ _ _ (c .if1 .left))
+
+pub put-word-spec : {M : Type 1} → statement M
+put-word-spec = tie.close (tie.spec mul-words slice-write-words same-length returns returns-2)
