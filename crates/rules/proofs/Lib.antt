@@ -5,3 +5,5 @@ pub mod Stages
 pub mod Shaped
 pub mod Free
 pub mod Refusals
+pub mod Fresh
+pub mod Told

@@ -64,9 +64,6 @@ module _ (s : Tables) (c : Call) where
   where-false false k n o a b r = refused k a b
 
 -- ---- the stages: none but 8 refuses
-abbrev Speaks : Decision → Type 0
-Speaks d = speaks (d .report) ≡ true
-
 said : (b : Bool) (d e : Decision) → speaks (pick b d e .report) ≡ pick b (speaks (d .report)) (speaks (e .report))
 said true d e = refl
 said false d e = refl

@@ -17,13 +17,13 @@ use Rattle.rules.specs.Shape.{shape}
 use Rattle.rules.specs.Calls.{Call}
 use Rattle.rules.specs.Calls.Call.{start, step, begin, rebalance}
 
--- a number of refusal, and whether its occasion is there
+-- a number of refusal, and when it is given
 pub record Occasion : Type 0 where
   pub number : ℕ
-  pub there : Bool
+  pub when : Bool
 
 abbrev pub refuses : ℕ → Bool → Occasion
-refuses n b = record { number = n; there = b }
+refuses n b = record { number = n; when = b }
 
 -- the number is one of a to b
 abbrev pub among : ℕ → ℕ → ℕ → Bool
@@ -59,10 +59,10 @@ module _ (z : Sizes) (s : Tables) where
   abbrev pub occasions : Call → List Occasion
   occasions c = refuses 10 (not (shape z s)) ∷ occasionsOf c
 
--- the number of the first occasion that is there, or 0
+-- the number of the first occasion that is met, or 0
 unfoldable pub refusal : List Occasion → ℕ
 refusal [] = 0
-refusal (x ∷ l) = let on = refusal l in pick (x .there) (x .number) on
+refusal (x ∷ l) = let on = refusal l in pick (x .when) (x .number) on
 
 -- "Each returns its number only and changes nothing, save 9: the task becomes idle, entries stay": the outcome of a call whose refusal is n, 0 where it has none
 pub record Answers (s : Tables) (c : Call) (n : ℕ) (o : Outcome) : Type 0 where
