@@ -2,4 +2,49 @@
 mod change;
 mod outcome;
 mod publish;
+mod scan;
 mod seek;
+
+use rules::Decision;
+use rules::Sizes;
+use rules::Task;
+ghost use mathlib.Core.Path.{_≡_};
+ghost use Prim.Native.Nat.{_<_};
+ghost use Rattle.rules.specs.Stages.{decide};
+ghost use Rattle.rows.specs.Rows.{Lent, directoryOf, tables};
+ghost use Rattle.stages.specs.Lengths.{Held};
+
+// The step looks at each of the 23 stage numbers.
+pub fn decide(
+    z: Sizes,
+    directory: &[u64],
+    tasks: &[u64],
+    chunks: &[u64],
+    entries: &[u64],
+    values: &[u64],
+    marks: &[u64],
+    t: Task,
+) -> Decision
+    requires { ⌜ Lent z (now directory) (now tasks) (now chunks) (now entries) (now values) (now marks) × Held z t × (t .stage < 23) × (directoryOf (now directory) .first .0 < z .chunks) ⌝ }
+    ensures { λ r. ⌜ r ≡ decide z (tables z (now (directory .entry)) (now (tasks .entry)) (now (chunks .entry)) (now (entries .entry)) (now (values .entry)) (now (marks .entry))) t ⌝ }
+{
+    let stage = t.stage;
+    match stage {
+        1 | 16 => seek::locate(z, directory, chunks, t),
+        2 => seek::find(z, chunks, entries, t),
+        3 => seek::read(z, entries, t),
+        4 => change::check(values, marks, t),
+        5 => change::apply(values, marks, t),
+        6 => change::take_entry(z, chunks, t),
+        7 => change::link(z, chunks, entries, t),
+        8 => change::take_handle(z, tasks, entries, t),
+        9 => change::write(t),
+        10..=12 => publish::insertion(z, chunks, entries, t),
+        13..=15 => publish::absence(z, chunks, entries, t),
+        17 => seek::find_again(z, chunks, entries, t),
+        18 => seek::read_again(z, entries, t),
+        19..=21 => publish::removal(z, chunks, entries, t),
+        22 => scan::scan(z, directory, chunks, entries, values, marks, t),
+        _ => outcome::stays(t),
+    }
+}

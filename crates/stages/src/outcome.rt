@@ -10,8 +10,10 @@ use rules::Write;
 ghost use mathlib.Core.Path.{_≡_};
 ghost use mathlib.Core.Bool.{Bool};
 ghost use Rattle.rules.specs.declared.Write.the-variants as write;
+ghost use Rattle.rules.specs.declared.Sizes.{Sizes};
 ghost use Rattle.rules.specs.Words.{inserts};
-ghost use Rattle.rules.specs.Stages.{goesTo, keeps, cursorAt, moves, restarts, finishes, finishesAbsent};
+ghost use Rattle.rules.specs.Tables.{Tables};
+ghost use Rattle.rules.specs.Stages.{goesTo, keeps, cursorAt, moves, restarts, finishes, finishesAbsent, stays};
 
 // The operation goes on at a stage, holding what is named.
 pub fn goes_to(
@@ -141,6 +143,17 @@ pub fn finishes_absent(t: Task) -> Decision
         finishes(Write::Nothing, Report::Absent)
     } else {
         finishes(Write::Nothing, Report::False)
+    }
+}
+
+// An idle task, or a number that is no stage.
+pub fn stays(t: Task) -> Decision
+    ensures { λ r. ⌜ ((z : Sizes) (s : Tables) → r ≡ stays z s t) ⌝ }
+{
+    Decision {
+        task: t,
+        write: Write::Nothing,
+        report: Report::Refused(3),
     }
 }
 

@@ -17,13 +17,13 @@ use rules::Task;
 use rules::Write;
 ghost use mathlib.Core.Path.{_≡_};
 ghost use mathlib.Core.List.{List};
-ghost use Prim.Native.Nat.{ℕ, _*_, _<_};
+ghost use Prim.Native.Nat.{ℕ, _*_, _<_, _≤_};
 ghost use lib.ListN.{length};
 ghost use Rattle.rules.specs.declared.Sizes.{Sizes};
 ghost use Rattle.rules.specs.Tables.{Tables};
-ghost use Rattle.rules.specs.Stages.{publishes, swaps, endsInsertion, endsAbsent, endsRemove};
+ghost use Rattle.rules.specs.Stages.{decide, publishes, swaps, endsInsertion, endsAbsent, endsRemove};
 ghost use Rattle.rows.specs.Rows.{tables};
-ghost use Rattle.stages.specs.Lengths.{Chunks, Entries, Holds};
+ghost use Rattle.stages.specs.Lengths.{Chunks, Entries, Holds, Held};
 
 // 10, 13, 19 publish
 pub fn publish(z: Sizes, chunks: &[u64], t: Task) -> Decision
@@ -125,4 +125,47 @@ pub fn end_remove(t: Task) -> Decision
     ensures { λ r. ⌜ ((z : Sizes) (s : Tables) → r ≡ endsRemove z s t) ⌝ }
 {
     finishes(Write::Nothing, Report::True)
+}
+
+// 10 to 12
+pub fn insertion(z: Sizes, chunks: &[u64], entries: &[u64], t: Task) -> Decision
+    requires { ⌜ Held z t × Chunks z (now chunks) × Entries z (now entries) × (10 ≤ t .stage) × (t .stage ≤ 12) ⌝ }
+    ensures { λ r. ⌜ ((d ts vs ms : List ℕ) → r ≡ decide z (tables z d ts (now (chunks .entry)) (now (entries .entry)) vs ms) t) ⌝ }
+{
+    if t.stage == 10 {
+        return publish(z, chunks, t);
+    }
+    if t.stage == 11 {
+        let h = t.new;
+        return swap(z, entries, t, h);
+    }
+    end_insertion(t)
+}
+
+// 13 to 15
+pub fn absence(z: Sizes, chunks: &[u64], entries: &[u64], t: Task) -> Decision
+    requires { ⌜ Held z t × Chunks z (now chunks) × Entries z (now entries) × (13 ≤ t .stage) × (t .stage ≤ 15) ⌝ }
+    ensures { λ r. ⌜ ((d ts vs ms : List ℕ) → r ≡ decide z (tables z d ts (now (chunks .entry)) (now (entries .entry)) vs ms) t) ⌝ }
+{
+    if t.stage == 13 {
+        return publish(z, chunks, t);
+    }
+    if t.stage == 14 {
+        return swap(z, entries, t, HandleNo(NONE));
+    }
+    end_absent(t)
+}
+
+// 19 to 21
+pub fn removal(z: Sizes, chunks: &[u64], entries: &[u64], t: Task) -> Decision
+    requires { ⌜ Held z t × Chunks z (now chunks) × Entries z (now entries) × (19 ≤ t .stage) × (t .stage ≤ 21) ⌝ }
+    ensures { λ r. ⌜ ((d ts vs ms : List ℕ) → r ≡ decide z (tables z d ts (now (chunks .entry)) (now (entries .entry)) vs ms) t) ⌝ }
+{
+    if t.stage == 19 {
+        return publish(z, chunks, t);
+    }
+    if t.stage == 20 {
+        return swap(z, entries, t, HandleNo(NONE));
+    }
+    end_remove(t)
 }

@@ -21,7 +21,7 @@ use Rattle.rows.specs.Rows.{rowsFrom}
 use Rattle.rows.proofs.Laws.{rows-step, rows-done}
 
 -- a walk with fuel left has a step, and one without has none
-fuelled : {A : Type 0} (f : ℕ → A) (g : ℕ → A) → ((n : ℕ) → f (suc n) ≡ g n) → (left : ℕ) → 0 < left → f left ≡ g (left - 1)
+pub fuelled : {A : Type 0} (f : ℕ → A) (g : ℕ → A) → ((n : ℕ) → f (suc n) ≡ g n) → (left : ℕ) → 0 < left → f left ≡ g (left - 1)
 fuelled f g step zero p = absurd (lt-irrefl _ p)
 fuelled f g step (suc n) p = rw sub-one (step n)
 
