@@ -5,6 +5,7 @@ use mathlib.Core.List.{List, [], _∷_}
 use lib.Dec.{eqb, ltb, leb}
 use lib.ListN.{replicate, set}
 use Rattle.rules.specs.declared.Sizes.{Sizes}
+use Rattle.rules.specs.declared.Directory.{Directory}
 use Rattle.rules.specs.declared.Task.{Task}
 use Rattle.rules.specs.declared.Decision.{Decision}
 use Rattle.rules.specs.declared.Report.{Report}
@@ -16,9 +17,12 @@ use Rattle.rules.specs.Rebalance.{Outcome, gives, begins, rebalanceDoes,
 use Rattle.rules.specs.Shape.{shape}
 
 -- "A fresh directory has chunk 0 live, minimum key 0, empty, not frozen; all else unused and idle"
+abbrev pub freshDirectory : Directory
+freshDirectory = record { first = chunkNo 0; stage = idle; old = noChunk; new = noChunk; second = noChunk }
+
 abbrev pub fresh : Sizes → Tables
 fresh z = record {
-  directory = record { first = chunkNo 0; stage = idle; old = noChunk; new = noChunk; second = noChunk };
+  directory = freshDirectory;
   tasks = replicate (z .tasks) idleTask;
   chunks = set (replicate (z .chunks) emptyChunk) 0 (withStatus emptyChunk live);
   entries = replicate (z .chunks * z .entries) emptyEntry;

@@ -1,6 +1,10 @@
 // The things that the tables hold, by value, and what a call answers (document 01, "What the tables hold").
 // What is done with them is said in specs/, once, for every crate above.
 
+ghost use mathlib.Core.Path.{_≡_};
+ghost use Rattle.rules.specs.Words.{limits};
+ghost use Rattle.rules.specs.Calls.{freshDirectory};
+
 // Stands for no chunk, no entry or no handle.
 pub const NONE: u64 = 18446744073709551615;
 
@@ -101,4 +105,40 @@ pub struct Decision {
     pub task: Task,
     pub write: Write,
     pub report: Report,
+}
+
+// The limits belong to the directory, and are written once.
+impl Directory {
+    pub const TASKS: usize = 8;
+
+    pub const CHUNKS: usize = 32;
+
+    pub const ENTRIES: usize = 32;
+
+    pub const HANDLES: usize = 560;
+
+    // How many there are of each.
+    pub fn sizes() -> Sizes
+        ensures { λ r. ⌜ r ≡ limits ⌝ }
+    {
+        Sizes {
+            tasks: Directory::TASKS,
+            chunks: Directory::CHUNKS,
+            entries: Directory::ENTRIES,
+            handles: Directory::HANDLES,
+        }
+    }
+
+    // A fresh directory's own row: chunk 0 is the first live one, and no rebalance is under way.
+    pub fn fresh() -> Directory
+        ensures { λ r. ⌜ r ≡ freshDirectory ⌝ }
+    {
+        Directory {
+            first: ChunkNo(0),
+            stage: 0,
+            old: ChunkNo(NONE),
+            new: ChunkNo(NONE),
+            second: ChunkNo(NONE),
+        }
+    }
 }
