@@ -9,12 +9,7 @@ use native.Mathlib.Omega.{arith}
 use native.Mathlib.Decide.{decLt}
 use lib.ListN.{length, getD, set, take, drop, length-take, List·getD-append, List·getD-eq-default}
 use lib.Seq.{sets, sets-eq, getD-append-add, getD-take, getD-drop, length-take-le, set-out}
-use Rattle.rules.specs.declared.Directory.{Directory}
-use Rattle.rules.specs.declared.Task.{Task}
-use Rattle.rules.specs.Words.{chunkNo, entryNo, handleNo}
-use Rattle.rules.specs.declared.Chunk.{Chunk}
-use Rattle.rules.specs.declared.Entry.{Entry}
-use Rattle.rows.specs.Rows.{rowsFrom, directoryOf, taskOf, chunkOf, entryOf, taskRows, chunkRows, entryRows}
+use Rattle.rows.specs.Rows.{rowsFrom}
 
 ne-lt-or-lt : (a b : ℕ) → a ≢ b → (a < b) ⊎ (b < a)
 ne-lt-or-lt a b n = go (decLt a b)
@@ -74,20 +69,24 @@ module _ {A : Type 0} where
   pub set-past : (f : ℕ → A) (n j : ℕ) (x : A) → n ≤ j → rowsFrom f 0 n ≡ set (rowsFrom f 0 n) j x
   set-past f n j x h = sym (set-out (rowsFrom f 0 n) j x (rw length-rows h))
 
-  same-from : (f g : ℕ → A) (i n : ℕ) → ((k : ℕ) → i ≤ k → g k ≡ f k) → rowsFrom g i n ≡ rowsFrom f i n
+  same-from : (f g : ℕ → A) (i n : ℕ) → ((k : ℕ) → i ≤ k → k < i + n → g k ≡ f k) → rowsFrom g i n ≡ rowsFrom f i n
   unfolding rowsFrom
   same-from f g i zero q = refl
   same-from f g i (suc n) q =
-      let here : g i ≡ f i = q i (omega arith) in
-      let on : rowsFrom g (i + 1) n ≡ rowsFrom f (i + 1) n = same-from f g (i + 1) n (λ k h. q k (omega arith)) in
+      let here : g i ≡ f i = q i (omega arith) (omega arith) in
+      let on : rowsFrom g (i + 1) n ≡ rowsFrom f (i + 1) n = same-from f g (i + 1) n (λ k h l. q k (omega arith) (omega arith)) in
       cc
+
+  -- rows that agree
+  pub row-alike : (f g : ℕ → A) (n : ℕ) → ((k : ℕ) → k < n → f k ≡ g k) → rowsFrom f 0 n ≡ rowsFrom g 0 n
+  row-alike f g n q = same-from g f 0 n (λ k h l. q k (omega arith))
 
   set-from : (f g : ℕ → A) (i n j : ℕ) (x : A) → g (i + j) ≡ x → ((k : ℕ) → k ≢ i + j → g k ≡ f k) → rowsFrom g i n ≡ set (rowsFrom f i n) j x
   unfolding rowsFrom
   set-from f g i zero j x p q = refl
   set-from f g i (suc n) zero x p q =
       let here : g i ≡ x = ap g (sym (add-zero i)) ∙ p in
-      let on : rowsFrom g (i + 1) n ≡ rowsFrom f (i + 1) n = same-from f g (i + 1) n (λ k h. q k (λ e. absurd (omega arith))) in
+      let on : rowsFrom g (i + 1) n ≡ rowsFrom f (i + 1) n = same-from f g (i + 1) n (λ k h l. q k (λ e. absurd (omega arith))) in
       cc
   set-from f g i (suc n) (suc j) x p q =
       let e : i + suc j ≡ i + 1 + j = omega arith in
@@ -151,71 +150,3 @@ module _ (w : ℕ) (ws vs : List ℕ) (i : ℕ) (wide : length vs ≡ w) (fits :
           let e : j * w + o ≡ i * w + (w + r) = omega (arith, suc-mul i w) in
           let e′ : j * w + o ≡ i * w + w + r = omega (arith, suc-mul i w) in
           ap (λ (m : ℕ). getD (sets ws (i * w) vs) m 0) e ∙ behind r ∙ ap (λ (m : ℕ). getD ws m 0) (sym e′)
-
--- ---- a table whose rows are `of`, read from w words each, and written as `words`
-module _ {A : Type 0} (w : ℕ) (of : List ℕ → ℕ → A) (from : (ℕ → ℕ) → A) (words : A → List ℕ)
-    (reads : (ws : List ℕ) (i : ℕ) → of ws i ≡ from (λ o. getD ws (i * w + o) 0))
-    (alike : (f g : ℕ → ℕ) → ((o : ℕ) → o < w → f o ≡ g o) → from f ≡ from g)
-    (back : (x : A) → from (λ o. getD (words x) o 0) ≡ x)
-    (wide : (x : A) → length (words x) ≡ w) where
-  row-put : (ws : List ℕ) (i : ℕ) (x : A) → i * w + w ≤ length ws → (n : ℕ) → rowsFrom (of (sets ws (i * w) (words x))) 0 n ≡ set (rowsFrom (of ws) 0 n) i x
-  row-put ws i x fits n =
-      row-set (of ws) (of (sets ws (i * w) (words x))) n i x
-      (reads _ i ∙ alike _ _ (stored w ws (words x) i (wide x) fits) ∙ back x)
-      (λ k h. reads _ k ∙ alike _ _ (λ o l. kept w ws (words x) i (wide x) fits k o h l) ∙ sym (reads ws k))
-
--- ---- the three tables
-entry-from : (ℕ → ℕ) → Entry
-entry-from f = record { key = f 0; handle = handleNo (f 1); next = entryNo (f 2) }
-
-entry-words : Entry → List ℕ
-entry-words x = x .key ∷ x .handle .0 ∷ x .next .0 ∷ []
-
-pub entry-put : (ws : List ℕ) (i : ℕ) (x : Entry) → i * 3 + 3 ≤ length ws → (n : ℕ) → entryRows n (sets ws (i * 3) (x .key ∷ x .handle .0 ∷ x .next .0 ∷ [])) ≡ set (entryRows n ws) i x
-unfolding entry-from entry-words
-entry-put = row-put 3 entryOf entry-from entry-words (λ ws i. simp add-zero) (λ f g h. let a = h 0 (omega arith) in let b = h 1 (omega arith) in let c = h 2 (omega arith) in cc) (λ x. refl) (λ x. refl)
-
-chunk-from : (ℕ → ℕ) → Chunk
-chunk-from f = record { status = f 0; frozen = f 1; min = f 2; next = chunkNo (f 3); head = entryNo (f 4); used = f 5 }
-
-chunk-words : Chunk → List ℕ
-chunk-words x = x .status ∷ x .frozen ∷ x .min ∷ x .next .0 ∷ x .head .0 ∷ x .used ∷ []
-
-pub chunk-put : (ws : List ℕ) (i : ℕ) (x : Chunk) → i * 6 + 6 ≤ length ws → (n : ℕ) → chunkRows n (sets ws (i * 6) (x .status ∷ x .frozen ∷ x .min ∷ x .next .0 ∷ x .head .0 ∷ x .used ∷ [])) ≡ set (chunkRows n ws) i x
-unfolding chunk-from chunk-words
-chunk-put = row-put 6 chunkOf chunk-from chunk-words (λ ws i. simp add-zero) (λ f g h. let a0 = h 0 (omega arith) in let a1 = h 1 (omega arith) in let a2 = h 2 (omega arith) in let a3 = h 3 (omega arith) in let a4 = h 4 (omega arith) in let a5 = h 5 (omega arith) in cc) (λ x. refl) (λ x. refl)
-
--- `towards-suc` ends at 8
-pub nine : (n : ℕ) → n + 9 ≡ suc (n + 8)
-nine n = omega arith
-
-pub ten : (n : ℕ) → n + 10 ≡ suc (suc (n + 8))
-ten n = omega arith
-
-task-from : (ℕ → ℕ) → Task
-task-from f = record { stage = f 0; operation = f 1; function = f 2; key = f 3; argument = f 4; chunk = chunkNo (f 5); entry = entryNo (f 6); old = handleNo (f 7); new = handleNo (f 8); published = f 9; swapped = f 10 }
-
-task-words : Task → List ℕ
-task-words x = x .stage ∷ x .operation ∷ x .function ∷ x .key ∷ x .argument ∷ x .chunk .0 ∷ x .entry .0 ∷ x .old .0 ∷ x .new .0 ∷ x .published ∷ x .swapped ∷ []
-
-pub task-put : (ws : List ℕ) (i : ℕ) (x : Task) → i * 11 + 11 ≤ length ws → (n : ℕ) → taskRows n (sets ws (i * 11) (x .stage ∷ x .operation ∷ x .function ∷ x .key ∷ x .argument ∷ x .chunk .0 ∷ x .entry .0 ∷ x .old .0 ∷ x .new .0 ∷ x .published ∷ x .swapped ∷ [])) ≡ set (taskRows n ws) i x
-unfolding task-from task-words
-task-put = row-put 11 taskOf task-from task-words (λ ws i. simp add-zero) (λ f g h. let a0 = h 0 (omega arith) in let a1 = h 1 (omega arith) in let a2 = h 2 (omega arith) in let a3 = h 3 (omega arith) in let a4 = h 4 (omega arith) in let a5 = h 5 (omega arith) in let a6 = h 6 (omega arith) in let a7 = h 7 (omega arith) in let a8 = h 8 (omega arith) in let a9 = h 9 (omega arith) in let a10 = h 10 (omega arith) in cc) (λ x. refl) (λ x. refl)
-
--- the directory's one row
-directory-from : (ℕ → ℕ) → Directory
-directory-from f = record { first = chunkNo (f 0); stage = f 1; old = chunkNo (f 2); new = chunkNo (f 3); second = chunkNo (f 4) }
-
-directory-alike : (f g : ℕ → ℕ) → ((o : ℕ) → o < 5 → f o ≡ g o) → directory-from f ≡ directory-from g
-unfolding directory-from
-directory-alike f g h = let a0 = h 0 (omega arith) in let a1 = h 1 (omega arith) in let a2 = h 2 (omega arith) in let a3 = h 3 (omega arith) in let a4 = h 4 (omega arith) in cc
-
-pub directory-put : (ws : List ℕ) (x : Directory) → length ws ≡ 5 → directoryOf (sets ws 0 (x .first .0 ∷ x .stage ∷ x .old .0 ∷ x .new .0 ∷ x .second .0 ∷ [])) ≡ x
-unfolding directory-from
-directory-put ws x long = directory-alike (λ o. getD (sets ws 0 vs) o 0) (λ o. getD vs o 0) at
-  where
-    vs : List ℕ
-    vs = x .first .0 ∷ x .stage ∷ x .old .0 ∷ x .new .0 ∷ x .second .0 ∷ []
-
-    at : (o : ℕ) → o < 5 → getD (sets ws 0 (x .first .0 ∷ x .stage ∷ x .old .0 ∷ x .new .0 ∷ x .second .0 ∷ [])) o 0 ≡ getD (x .first .0 ∷ x .stage ∷ x .old .0 ∷ x .new .0 ∷ x .second .0 ∷ []) o 0
-    at o h = rw zero-add at (stored 5 ws (x .first .0 ∷ x .stage ∷ x .old .0 ∷ x .new .0 ∷ x .second .0 ∷ []) 0 refl (omega arith) o h)

@@ -2,7 +2,7 @@ use native.Mathlib.Omega.{arith}
 use native.Mathlib.Numerals.{towards-suc}
 use borrow.Author.Needs.{needs}
 use lib.ListN.{length-set}
-use Rattle.rows.proofs.Laws.{chunk-put}
+use Rattle.rows.proofs.Layouts.{chunk-put}
 use Rattle.rows.proofs.put_chunk_row.Statement.{statement}
 use Rattle.rows.proofs.put_chunk_row.Tie as tie
 use Rattle.rows.proofs.put_chunk_row.Reads as reads

@@ -1,5 +1,5 @@
 use native.Mathlib.Omega.{arith}
-use Rattle.rows.proofs.Laws.{directory-put}
+use Rattle.rows.proofs.Layouts.{directory-put}
 use borrow.Author.Needs.{needs}
 use lib.ListN.{length-set}
 use Rattle.rows.proofs.put_directory_row.Statement.{statement}

@@ -2,7 +2,7 @@ use native.Mathlib.Omega.{arith}
 use native.Mathlib.Numerals.{towards-suc}
 use borrow.Author.Needs.{needs}
 use lib.ListN.{length-set}
-use Rattle.rows.proofs.Laws.{nine, ten, task-put}
+use Rattle.rows.proofs.Layouts.{nine, ten, task-put}
 use Rattle.rows.proofs.put_task_row.Statement.{statement}
 use Rattle.rows.proofs.put_task_row.Tie as tie
 use Rattle.rows.proofs.put_task_row.Reads as reads
