@@ -1,0 +1,59 @@
+-- A promise from its parts: refused by 10, or done as the rules do.
+use Prim.Native.Nat.{ℕ, _*_}
+use mathlib.Core.Path.{_≡_, refl, sym, ap, _∙_}
+use mathlib.Core.Bool.{Bool, true, false, true≢false}
+use mathlib.Core.List.{List}
+use lib.Dec.{eqb}
+use lib.ListN.{length}
+use borrow.Author.Tests.{eqb-true, eq-eqb}
+use Rattle.rules.specs.declared.Sizes.{Sizes}
+use Rattle.rules.specs.declared.Report.{Report}
+use Rattle.rules.specs.declared.Report.the-variants as report
+use Rattle.rules.specs.Words.{_and_}
+use Rattle.rules.specs.Told.{told}
+use Rattle.rules.specs.Shape.{shape}
+use Rattle.rules.specs.Calls.{Call, does, calls}
+use Rattle.rules.proofs.Tests.{and-left, and-right, both}
+use Rattle.rows.specs.Rows.{Lent}
+use Rattle.calls.specs.Promise.{Words, tablesOf, lent, Promise}
+
+leading : (a b : ℕ) (rest : Bool) → (eqb a b and rest) ≡ true → a ≡ b
+leading a b rest t = eqb-true a b (and-left (eqb a b) rest t)
+
+-- the lengths, by name
+pub lent-lengths : (z : Sizes) (w : Words) → lent z w ≡ true → Lent z (w .directory) (w .tasks) (w .chunks) (w .entries) (w .values) (w .marks)
+lent-lengths z w t =
+    let a1 = and-right (eqb (length (w .directory)) 5) _ t in
+    let a2 = and-right (eqb (length (w .tasks)) (z .tasks * 11)) _ a1 in
+    let a3 = and-right (eqb (length (w .chunks)) (z .chunks * 6)) _ a2 in
+    let a4 = and-right (eqb (length (w .entries)) (z .chunks * z .entries * 3)) _ a3 in
+    record {
+      directory = leading (length (w .directory)) 5 _ t;
+      tasks = leading (length (w .tasks)) (z .tasks * 11) _ a1;
+      chunks = leading (length (w .chunks)) (z .chunks * 6) _ a2;
+      entries = leading (length (w .entries)) (z .chunks * z .entries * 3) _ a3;
+      values = leading (length (w .values)) (z .handles) _ a4;
+      marks = eqb-true (length (w .marks)) (z .handles) (and-right (eqb (length (w .values)) (z .handles)) _ a4);
+    }
+
+pub lengths-lent : (z : Sizes) (w : Words) → Lent z (w .directory) (w .tasks) (w .chunks) (w .entries) (w .values) (w .marks) → lent z w ≡ true
+lengths-lent z w l =
+    rw (eq-eqb _ _ (l .directory), eq-eqb _ _ (l .tasks), eq-eqb _ _ (l .chunks), eq-eqb _ _ (l .entries), eq-eqb _ _ (l .values), eq-eqb _ _ (l .marks))
+
+module _ (z : Sizes) (c : Call) (before : Words) where
+  -- the words are not lent as asked, or fail the shape
+  pub refused : (lent z before and shape z (tablesOf z before)) ≡ false → Promise z c before before (report.Refused 10)
+  unfolding calls
+  refused t = go (lent z before) refl t
+    where
+      go : (b : Bool) → lent z before ≡ b → (b and shape z (tablesOf z before)) ≡ false → Promise z c before before (report.Refused 10)
+      go false e t = record { refuses = λ h. (refl, refl); reports = λ h. absurd (true≢false (sym h ∙ e)); leaves = λ h. absurd (true≢false (sym h ∙ e)); lends = λ h. h }
+      go true e t = record { refuses = λ h. absurd (true≢false (sym e ∙ h)); reports = λ h. rw t; leaves = λ h. rw t; lends = λ h. h }
+
+  -- the words are lent as asked and have the shape, and the call does what the rules do
+  pub done : (after : Words) (r : Report) → (lent z before and shape z (tablesOf z before)) ≡ true → r ≡ does z (tablesOf z before) c .report → tablesOf z after ≡ does z (tablesOf z before) c .tables → lent z after ≡ true → Promise z c before after r
+  unfolding calls
+  done after r t reports leaves lends =
+      let l = and-left (lent z before) (shape z (tablesOf z before)) t in
+      let s = and-right (lent z before) (shape z (tablesOf z before)) t in
+      record { refuses = λ h. absurd (true≢false (sym l ∙ h)); reports = λ h. rw s (ap told reports); leaves = λ h. rw s leaves; lends = λ h. lends }
