@@ -1,3 +1,4 @@
+pub mod Filling
 pub mod Held
 pub mod Laws
 pub mod Unique

@@ -1,1 +1,2 @@
+mod making;
 mod starting;

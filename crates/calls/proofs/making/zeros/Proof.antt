@@ -1,0 +1,54 @@
+use Prim.Native.Nat.{_-_, _≤_}
+use mathlib.Core.Path.{_≡_, refl}
+use native.Mathlib.Omega.{arith}
+use lib.ListN.{length, take}
+use lib.ListN.{length-set}
+use lib.ListN.{replicate}
+use Rattle.calls.proofs.Filling.{filled-more, filled-all}
+use Rattle.calls.proofs.making.zeros.Statement.{statement}
+use Rattle.calls.proofs.making.zeros.Tie as tie
+
+abbrev Inv-loop : tie.InvT-loop
+Inv-loop words₀ i₀ words i = (take i words ≡ replicate i 0) × (length words ≡ length words₀) × (i ≤ length words)
+
+abbrev μ-loop : tie.MeasureT-loop
+μ-loop words₀ i₀ words i = length words - i
+
+loop-holds : tie.Need-loop-holds Inv-loop μ-loop
+loop-holds c = (refl, refl, omega arith)
+
+mul-words : tie.Need-mul-words Inv-loop μ-loop
+mul-words c = omega arith
+
+slice-write-words : tie.Need-slice-write-words Inv-loop μ-loop
+slice-write-words c = omega arith
+
+add-i : tie.Need-add-i Inv-loop μ-loop
+add-i c = omega arith
+
+loop-less : tie.Need-loop-less Inv-loop μ-loop
+loop-less c = simp length-set (omega arith)
+
+loop-again : tie.Need-loop-again Inv-loop μ-loop
+loop-again c = let the-loop = c .before .loop in (filled-more 0 (the-loop .words) (the-loop .i) (c .loop-test .taken) (the-loop .inv .0), simp length-set (the-loop .inv .1), simp length-set (omega arith))
+
+same-length : tie.Need-same-length Inv-loop μ-loop
+same-length c = c .before .loop .inv .1
+
+returns : tie.Need-returns Inv-loop μ-loop
+returns c = let the-loop = c .before .loop in filled-all 0 (the-loop .words) (length (c .before .before .args .words .now)) (the-loop .i) (the-loop .inv .1) (omega arith) (omega arith) (the-loop .inv .0)
+
+pub zeros-spec : {M : Type 1} → statement M
+zeros-spec =
+    tie.close
+    (tie.spec
+    Inv-loop
+    μ-loop
+    loop-holds
+    mul-words
+    slice-write-words
+    add-i
+    loop-less
+    loop-again
+    same-length
+    returns)
