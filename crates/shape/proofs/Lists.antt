@@ -1,0 +1,59 @@
+-- The walk along a chunk's list, one step, told by the entry that the code has read.
+use Prim.Native.Nat.{ℕ, zero, suc, _+_, _*_, _-_, _≤_, _<_, zero-le}
+use mathlib.Core.Path.{_≡_, refl, sym, ap, _∙_}
+use mathlib.Core.Bool.{Bool, true, false}
+use mathlib.Core.List.{List, [], _∷_}
+use native.Mathlib.Nat.{lt-irrefl, le-antisymm}
+use native.Mathlib.Numerals.{sub-one}
+use lib.Dec.{leb}
+use borrow.Author.Tests.{lt-ltb, le-ltb, eq-eqb, ne-eqb}
+use Rattle.rules.specs.declared.Sizes.{Sizes}
+use Rattle.rules.specs.declared.Entry.{Entry}
+use Rattle.rules.specs.declared.ChunkNo.{ChunkNo}
+use Rattle.rules.specs.declared.EntryNo.{EntryNo}
+use Rattle.rules.specs.Words.{pick, NONE}
+use Rattle.rules.specs.Tables.{entryAt}
+use Rattle.rules.specs.Shape.{isNone, ascendsFrom}
+
+module _ (z : Sizes) (es : List Entry) (c : ChunkNo) (used left : ℕ) (e : EntryNo) (k : ℕ) where
+  pub ascends-spent : left ≤ 0 → ascendsFrom z es c used left e k ≡ isNone (e .0)
+  unfolding ascendsFrom
+  ascends-spent h = rw (le-antisymm h zero-le)
+
+  pub ascends-none : e .0 ≡ NONE → ascendsFrom z es c used left e k ≡ true
+  unfolding ascendsFrom
+  ascends-none h = go left
+    where
+      go : (n : ℕ) → ascendsFrom z es c used n e k ≡ true
+      go zero = eq-eqb (e .0) NONE h
+      go (suc n) = rw (eq-eqb (e .0) NONE h)
+
+  pub ascends-unused : (e .0 ≡ NONE → ⊥) → used ≤ e .0 → ascendsFrom z es c used left e k ≡ false
+  unfolding ascendsFrom
+  ascends-unused m h = go left
+    where
+      go : (n : ℕ) → ascendsFrom z es c used n e k ≡ false
+      go zero = ne-eqb (e .0) NONE m
+      go (suc n) = rw (ne-eqb (e .0) NONE m, le-ltb (e .0) used h)
+
+  pub ascends-falls : (e .0 ≡ NONE → ⊥) → e .0 < used → 0 < left → (x : Entry) → x ≡ entryAt z es c e → leb k (x .key) ≡ false → ascendsFrom z es c used left e k ≡ false
+  unfolding ascendsFrom
+  ascends-falls m u p x q h = go left p
+    where
+      h′ : leb k (entryAt z es c e .key) ≡ false
+      h′ = rw q at h
+
+      go : (n : ℕ) → 0 < n → ascendsFrom z es c used n e k ≡ false
+      go zero p = absurd (lt-irrefl _ p)
+      go (suc n) p = rw (ne-eqb (e .0) NONE m, lt-ltb (e .0) used u, h′)
+
+  pub ascends-next : (e .0 ≡ NONE → ⊥) → e .0 < used → 0 < left → (x : Entry) → x ≡ entryAt z es c e → leb k (x .key) ≡ true → ascendsFrom z es c used left e k ≡ ascendsFrom z es c used (left - 1) (x .next) (x .key + 1)
+  unfolding ascendsFrom
+  ascends-next m u p x q h = go left p
+    where
+      h′ : leb k (entryAt z es c e .key) ≡ true
+      h′ = rw q at h
+
+      go : (n : ℕ) → 0 < n → ascendsFrom z es c used n e k ≡ ascendsFrom z es c used (n - 1) (x .next) (x .key + 1)
+      go zero p = absurd (lt-irrefl _ p)
+      go (suc n) p = rw (ne-eqb (e .0) NONE m, lt-ltb (e .0) used u, h′, sub-one, q)
