@@ -1,4 +1,4 @@
--- The walk along a chunk's list, one step, told by the entry that the code has read.
+-- The walks along a chunk's list, one step, told by the entry that the code has read.
 use Prim.Native.Nat.{ℕ, zero, suc, _+_, _*_, _-_, _≤_, _<_, zero-le}
 use mathlib.Core.Path.{_≡_, refl, sym, ap, _∙_}
 use mathlib.Core.Bool.{Bool, true, false}
@@ -13,7 +13,7 @@ use Rattle.rules.specs.declared.ChunkNo.{ChunkNo}
 use Rattle.rules.specs.declared.EntryNo.{EntryNo}
 use Rattle.rules.specs.Words.{pick, NONE}
 use Rattle.rules.specs.Tables.{entryAt}
-use Rattle.rules.specs.Shape.{isNone, ascendsFrom}
+use Rattle.rules.specs.Shape.{isNone, ascendsFrom, linkedFrom}
 
 module _ (z : Sizes) (es : List Entry) (c : ChunkNo) (used left : ℕ) (e : EntryNo) (k : ℕ) where
   pub ascends-spent : left ≤ 0 → ascendsFrom z es c used left e k ≡ isNone (e .0)
@@ -57,3 +57,32 @@ module _ (z : Sizes) (es : List Entry) (c : ChunkNo) (used left : ℕ) (e : Entr
       go : (n : ℕ) → 0 < n → ascendsFrom z es c used n e k ≡ ascendsFrom z es c used (n - 1) (x .next) (x .key + 1)
       go zero p = absurd (lt-irrefl _ p)
       go (suc n) p = rw (ne-eqb (e .0) NONE m, lt-ltb (e .0) used u, h′, sub-one, q)
+
+module _ (z : Sizes) (es : List Entry) (c : ChunkNo) (left : ℕ) (e x : EntryNo) where
+  pub linked-spent : left ≤ 0 → linkedFrom z es c left e x ≡ false
+  unfolding linkedFrom
+  linked-spent h = rw (le-antisymm h zero-le)
+
+  pub linked-past : z .entries ≤ e .0 → linkedFrom z es c left e x ≡ false
+  unfolding linkedFrom
+  linked-past h = go left
+    where
+      go : (n : ℕ) → linkedFrom z es c n e x ≡ false
+      go zero = refl
+      go (suc n) = rw (le-ltb (e .0) (z .entries) h)
+
+  pub linked-here : 0 < left → e .0 < z .entries → e .0 ≡ x .0 → linkedFrom z es c left e x ≡ true
+  unfolding linkedFrom
+  linked-here p h q = go left p
+    where
+      go : (n : ℕ) → 0 < n → linkedFrom z es c n e x ≡ true
+      go zero p = absurd (lt-irrefl _ p)
+      go (suc n) p = rw (lt-ltb (e .0) (z .entries) h, eq-eqb (e .0) (x .0) q)
+
+  pub linked-next : 0 < left → e .0 < z .entries → (e .0 ≡ x .0 → ⊥) → (y : Entry) → y ≡ entryAt z es c e → linkedFrom z es c left e x ≡ linkedFrom z es c (left - 1) (y .next) x
+  unfolding linkedFrom
+  linked-next p h m y q = go left p
+    where
+      go : (n : ℕ) → 0 < n → linkedFrom z es c n e x ≡ linkedFrom z es c (n - 1) (y .next) x
+      go zero p = absurd (lt-irrefl _ p)
+      go (suc n) p = rw (lt-ltb (e .0) (z .entries) h, ne-eqb (e .0) (x .0) m, sub-one, q)

@@ -22,3 +22,19 @@ and-left false b h = h
 pub and-right : (a b : Bool) → pick a b false ≡ true → b ≡ true
 and-right true b h = h
 and-right false b h = absurd (false≢true h)
+
+-- what a test by `|` gave
+pub or-gives : (a b t : Bool) → a || b ≡ t → pick a true b ≡ t
+or-gives a b t h = sym (or-is a b) ∙ h
+
+pub and-six : (a b c d e f : Bool) → a && b && c && d && e && f ≡ pick a (pick b (pick c (pick d (pick e f false) false) false) false) false
+and-six a b c d e f = simp (and-is, and-and)
+
+-- two tests before a third, made together
+pub both-fail : (a b c : Bool) → a && b ≡ false → pick a (pick b c false) false ≡ false
+both-fail true b c h = rw h
+both-fail false b c h = refl
+
+pub both-hold : (a b c : Bool) → a && b ≡ true → pick a (pick b c false) false ≡ c
+both-hold true b c h = rw h
+both-hold false b c h = absurd (false≢true h)
