@@ -25,12 +25,14 @@ pub(crate) fn in_table(size: usize, n: u64) -> bool
     ((n as usize) < size) | (n == NONE)
 }
 
+// The row of an unused slot.
 fn is_empty_entry(x: Entry) -> bool
     ensures { λ r. ⌜ r ≡ isEmptyEntry x ⌝ }
 {
     (x.key == 0) & (x.handle.0 == NONE) & (x.next.0 == NONE)
 }
 
+// The row of an unused chunk.
 fn is_empty_chunk(x: Chunk) -> bool
     ensures { λ r. ⌜ r ≡ isEmptyChunk x ⌝ }
 {
@@ -136,6 +138,7 @@ fn chunk_right(z: Sizes, entries: &[u64], n: usize, x: Chunk) -> bool
     ascends(z, entries, c, x.used, x.head)
 }
 
+// Every chunk.
 pub(crate) fn chunks_right(z: Sizes, chunks: &[u64], entries: &[u64]) -> bool
     requires { ⌜ (length (now chunks) ≡ z .chunks * 6) × (length (now entries) ≡ z .chunks * z .entries * 3) ⌝ }
     ensures { λ r. ⌜ r ≡ each (chunkRight z (listed z (now (entries .entry)))) 0 (chunkRows (z .chunks) (now (chunks .entry))) ⌝ }

@@ -34,6 +34,7 @@ fn chunk_fits(z: Sizes, d: Directory, n: usize, x: Chunk) -> bool
     (x.frozen == 0) & ((x.status == 0) | (x.status == 1))
 }
 
+// Every chunk.
 fn chunks_fit(z: Sizes, chunks: &[u64], d: Directory) -> bool
     requires { ⌜ length (now chunks) ≡ z .chunks * 6 ⌝ }
     ensures { λ r. ⌜ r ≡ each (chunkFits z (bare z) d) 0 (chunkRows (z .chunks) (now (chunks .entry))) ⌝ }
@@ -70,6 +71,7 @@ fn stage_fits(z: Sizes, d: Directory, two: bool) -> bool
     false
 }
 
+// The rebalance and every chunk.
 pub(crate) fn rebalance_fits(z: Sizes, chunks: &[u64], d: Directory) -> bool
     requires { ⌜ length (now chunks) ≡ z .chunks * 6 ⌝ }
     ensures { λ r. ⌜ r ≡ rebalanceFits z (headed z d (now (chunks .entry))) ⌝ }

@@ -13,6 +13,7 @@ pub struct Holds {
 
 // The stage list.
 const STAGES: [Holds; 23] = [
+    // 0 idle
     Holds {
         chunk: 0,
         entry: 0,
@@ -21,6 +22,7 @@ const STAGES: [Holds; 23] = [
         published: 0,
         swapped: 0,
     },
+    // 1 locate
     Holds {
         chunk: 0,
         entry: 0,
@@ -29,6 +31,7 @@ const STAGES: [Holds; 23] = [
         published: 0,
         swapped: 0,
     },
+    // 2 find
     Holds {
         chunk: 1,
         entry: 0,
@@ -37,6 +40,7 @@ const STAGES: [Holds; 23] = [
         published: 0,
         swapped: 0,
     },
+    // 3 read
     Holds {
         chunk: 1,
         entry: 1,
@@ -45,6 +49,7 @@ const STAGES: [Holds; 23] = [
         published: 0,
         swapped: 0,
     },
+    // 4 check
     Holds {
         chunk: 1,
         entry: 1,
@@ -53,6 +58,7 @@ const STAGES: [Holds; 23] = [
         published: 0,
         swapped: 0,
     },
+    // 5 apply
     Holds {
         chunk: 1,
         entry: 1,
@@ -61,6 +67,7 @@ const STAGES: [Holds; 23] = [
         published: 0,
         swapped: 0,
     },
+    // 6 take entry
     Holds {
         chunk: 1,
         entry: 0,
@@ -69,6 +76,7 @@ const STAGES: [Holds; 23] = [
         published: 0,
         swapped: 0,
     },
+    // 7 link
     Holds {
         chunk: 1,
         entry: 1,
@@ -77,6 +85,7 @@ const STAGES: [Holds; 23] = [
         published: 0,
         swapped: 0,
     },
+    // 8 take handle
     Holds {
         chunk: 1,
         entry: 1,
@@ -85,6 +94,7 @@ const STAGES: [Holds; 23] = [
         published: 0,
         swapped: 0,
     },
+    // 9 write
     Holds {
         chunk: 1,
         entry: 1,
@@ -93,6 +103,7 @@ const STAGES: [Holds; 23] = [
         published: 0,
         swapped: 0,
     },
+    // 10 publish
     Holds {
         chunk: 1,
         entry: 1,
@@ -101,6 +112,7 @@ const STAGES: [Holds; 23] = [
         published: 0,
         swapped: 0,
     },
+    // 11 swap
     Holds {
         chunk: 1,
         entry: 1,
@@ -109,6 +121,7 @@ const STAGES: [Holds; 23] = [
         published: 1,
         swapped: 0,
     },
+    // 12 unpublish
     Holds {
         chunk: 1,
         entry: 1,
@@ -117,6 +130,7 @@ const STAGES: [Holds; 23] = [
         published: 1,
         swapped: 2,
     },
+    // 13 publish
     Holds {
         chunk: 1,
         entry: 1,
@@ -125,6 +139,7 @@ const STAGES: [Holds; 23] = [
         published: 0,
         swapped: 0,
     },
+    // 14 swap to none
     Holds {
         chunk: 1,
         entry: 1,
@@ -133,6 +148,7 @@ const STAGES: [Holds; 23] = [
         published: 1,
         swapped: 0,
     },
+    // 15 unpublish
     Holds {
         chunk: 1,
         entry: 1,
@@ -141,6 +157,7 @@ const STAGES: [Holds; 23] = [
         published: 1,
         swapped: 2,
     },
+    // 16 locate again
     Holds {
         chunk: 0,
         entry: 0,
@@ -149,6 +166,7 @@ const STAGES: [Holds; 23] = [
         published: 0,
         swapped: 0,
     },
+    // 17 find again
     Holds {
         chunk: 1,
         entry: 0,
@@ -157,6 +175,7 @@ const STAGES: [Holds; 23] = [
         published: 0,
         swapped: 0,
     },
+    // 18 read again
     Holds {
         chunk: 1,
         entry: 1,
@@ -165,6 +184,7 @@ const STAGES: [Holds; 23] = [
         published: 0,
         swapped: 0,
     },
+    // 19 publish
     Holds {
         chunk: 1,
         entry: 1,
@@ -173,6 +193,7 @@ const STAGES: [Holds; 23] = [
         published: 0,
         swapped: 0,
     },
+    // 20 swap to none
     Holds {
         chunk: 1,
         entry: 1,
@@ -181,6 +202,7 @@ const STAGES: [Holds; 23] = [
         published: 1,
         swapped: 0,
     },
+    // 21 unpublish
     Holds {
         chunk: 1,
         entry: 1,
@@ -189,6 +211,7 @@ const STAGES: [Holds; 23] = [
         published: 1,
         swapped: 0,
     },
+    // 22 scan
     Holds {
         chunk: 0,
         entry: 0,

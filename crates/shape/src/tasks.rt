@@ -9,7 +9,7 @@ use rules::Sizes;
 use rules::Task;
 ghost use mathlib.Core.Path.{_≡_};
 ghost use mathlib.Core.Bool.{true};
-ghost use Prim.Native.Nat.{_*_, _<_, _≤_};
+ghost use Prim.Native.Nat.{_*_};
 ghost use lib.ListN.{length};
 ghost use Rattle.rules.specs.Shape.{each, heldAs, flagAs, fitsOperation, linkedFrom, isIdle, holdsEntry, holdsRight, taskRight};
 ghost use Rattle.rows.specs.Rows.{taskRows, entryRows};
@@ -28,6 +28,7 @@ fn held(how: u64, size: usize, n: u64) -> bool
     in_table(size, n)
 }
 
+// A flag is set as the list says.
 fn flagged(how: u64, n: u64) -> bool
     ensures { λ r. ⌜ r ≡ flagAs how n ⌝ }
 {
@@ -59,6 +60,7 @@ fn function_right(op: u64, function: u64) -> bool
     true
 }
 
+// The row of an idle task.
 fn is_idle(t: Task) -> bool
     ensures { λ r. ⌜ r ≡ isIdle t ⌝ }
 {
@@ -144,6 +146,7 @@ fn holds_right(z: Sizes, chunks: &[u64], entries: &[u64], t: Task, h: Holds) -> 
     holds_entry(z, chunks, entries, t)
 }
 
+// A task is idle, or its stage fits its operation and holds what the list says.
 fn task_right(z: Sizes, chunks: &[u64], entries: &[u64], t: Task) -> bool
     requires { ⌜ Long z (now chunks) (now entries) ⌝ }
     ensures { λ r. ⌜ r ≡ taskRight z (kept z (now (chunks .entry)) (now (entries .entry))) 0 t ⌝ }
@@ -161,6 +164,7 @@ fn task_right(z: Sizes, chunks: &[u64], entries: &[u64], t: Task) -> bool
     holds_right(z, chunks, entries, t, h)
 }
 
+// Every task.
 pub(crate) fn tasks_right(z: Sizes, tasks: &[u64], chunks: &[u64], entries: &[u64]) -> bool
     requires { ⌜ (length (now tasks) ≡ z .tasks * 11) × Long z (now chunks) (now entries) ⌝ }
     ensures { λ r. ⌜ r ≡ each (taskRight z (kept z (now (chunks .entry)) (now (entries .entry)))) 0 (taskRows (z .tasks) (now (tasks .entry))) ⌝ }

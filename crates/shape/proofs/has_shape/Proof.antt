@@ -1,17 +1,9 @@
-use mathlib.Core.Path.{_≡_, sym, _∙_}
+use mathlib.Core.Path.{sym, _∙_}
 use borrow.Author.Tests.{lt-ltb, le-ltb, not-true, not-false}
 use Rattle.shape.proofs.Whole.{shape-is}
 use borrow.Author.Needs.{needs}
 use Rattle.shape.proofs.has_shape.Statement.{statement}
 use Rattle.shape.proofs.has_shape.Tie as tie
-use Rattle.shape.proofs.has_shape.Reads as reads
-use Rattle.shape.proofs.has_shape.Lts as lts
-use Rattle.rows.proofs.directory_row.Reads as directory-row-reads
-use Rattle.shape.proofs.chunks.chain_right.Reads as chain-right-reads
-use Rattle.shape.proofs.chunks.chunks_right.Reads as chunks-right-reads
-use Rattle.shape.proofs.marks_right.Reads as marks-right-reads
-use Rattle.shape.proofs.rebalance.rebalance_fits.Reads as rebalance-fits-reads
-use Rattle.shape.proofs.tasks.tasks_right.Reads as tasks-right-reads
 
 directory-row-requires : tie.Need-directory-row-requires
 directory-row-requires c κs = search needs

@@ -1,4 +1,4 @@
-use Prim.Native.Nat.{ℕ, _+_, _-_, _≤_}
+use Prim.Native.Nat.{ℕ, _-_}
 use mathlib.Core.Path.{_≡_, refl, sym, _∙_, ap}
 use mathlib.Core.Bool.{Bool}
 use native.Mathlib.Omega.{arith}
@@ -7,12 +7,9 @@ use borrow.Author.Tests.{le-leb, lt-leb}
 use lib.Dec.{leb}
 use lib.ListN.{length, getD}
 use Rattle.rules.specs.Shape.{each}
-use Rattle.rows.specs.Rows.{rowsFrom}
 use Rattle.shape.proofs.Rows.{rest, each-start, each-end, each-fails, each-passes, list-rows}
 use Rattle.shape.proofs.marks_right.Statement.{statement}
 use Rattle.shape.proofs.marks_right.Tie as tie
-use Rattle.shape.proofs.marks_right.Reads as reads
-use Rattle.shape.proofs.marks_right.Lts as lts
 
 abbrev marked : ℕ → ℕ → Bool
 marked n m = leb m 1

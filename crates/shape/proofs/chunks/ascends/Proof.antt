@@ -1,5 +1,5 @@
-use Prim.Native.Nat.{ℕ, _+_, _*_, _-_, _≤_}
-use mathlib.Core.Path.{_≡_, refl, sym, _∙_, ap}
+use Prim.Native.Nat.{_*_, _-_}
+use mathlib.Core.Path.{_≡_, refl, sym, _∙_}
 use native.Mathlib.Omega.{arith}
 use borrow.Author.Needs.{needs}
 use borrow.Author.Tests.{not-true, not-false}
@@ -9,10 +9,6 @@ use Rattle.shape.specs.Parts.{least}
 use Rattle.shape.proofs.Lists.{ascends-spent, ascends-none, ascends-unused, ascends-falls, ascends-next}
 use Rattle.shape.proofs.chunks.ascends.Statement.{statement}
 use Rattle.shape.proofs.chunks.ascends.Tie as tie
-use Rattle.shape.proofs.chunks.ascends.Reads as reads
-use Rattle.shape.proofs.chunks.ascends.Lts as lts
-use Rattle.rows.proofs.entry_at.Reads as entry-at-reads
-use Rattle.shape.proofs.chunks.follows.Reads as follows-reads
 
 abbrev Inv-loop : tie.InvT-loop
 Inv-loop z entries c used at₀ left₀ start₀ last₀ at left start last = ascendsFrom z (entryRows (z .chunks * z .entries) entries) c used (z .entries) at₀ 0 ≡ ascendsFrom z (entryRows (z .chunks * z .entries) entries) c used left at (least start last)

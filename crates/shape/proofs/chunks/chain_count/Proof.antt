@@ -1,5 +1,5 @@
-use Prim.Native.Nat.{ℕ, _+_, _*_, _-_, _≤_}
-use mathlib.Core.Path.{_≡_, refl, sym, _∙_, ap}
+use Prim.Native.Nat.{_+_, _-_}
+use mathlib.Core.Path.{_≡_, refl, sym, _∙_}
 use native.Mathlib.Omega.{arith}
 use borrow.Author.Needs.{needs}
 use borrow.Author.Tests.{not-true, not-false}
@@ -10,10 +10,6 @@ use Rattle.shape.proofs.Tests.{and-is}
 use Rattle.shape.proofs.Chain.{chain-spent, chain-past, chain-breaks, chain-ends, chain-next}
 use Rattle.shape.proofs.chunks.chain_count.Statement.{statement}
 use Rattle.shape.proofs.chunks.chain_count.Tie as tie
-use Rattle.shape.proofs.chunks.chain_count.Reads as reads
-use Rattle.shape.proofs.chunks.chain_count.Lts as lts
-use Rattle.rows.proofs.chunk_at.Reads as chunk-at-reads
-use Rattle.shape.proofs.chunks.follows.Reads as follows-reads
 
 abbrev Inv-loop : tie.InvT-loop
 Inv-loop z chunks past at₀ left₀ n₀ start₀ last₀ at left n start last = (chainCount z (chunkRows (z .chunks) chunks) (z .chunks) at₀ 0 0 ≡ chainCount z (chunkRows (z .chunks) chunks) left at (least start last) n) × (n + left ≡ z .chunks)

@@ -1,14 +1,9 @@
-use mathlib.Core.Path.{_≡_, sym, _∙_}
+use mathlib.Core.Path.{_∙_}
 use Rattle.shape.proofs.Tests.{and-is}
 use Rattle.shape.proofs.Chain.{live-is}
 use borrow.Author.Needs.{needs}
 use Rattle.shape.proofs.chunks.chain_right.Statement.{statement}
 use Rattle.shape.proofs.chunks.chain_right.Tie as tie
-use Rattle.shape.proofs.chunks.chain_right.Reads as reads
-use Rattle.shape.proofs.chunks.chain_right.Lts as lts
-use Rattle.rows.proofs.chunk_at.Reads as chunk-at-reads
-use Rattle.shape.proofs.chunks.chain_count.Reads as chain-count-reads
-use Rattle.shape.proofs.chunks.status_count.Reads as status-count-reads
 
 chunk-at-requires : tie.Need-chunk-at-requires
 chunk-at-requires c κs = search needs

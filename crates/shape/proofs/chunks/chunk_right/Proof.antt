@@ -4,11 +4,6 @@ use borrow.Author.Tests.{not-true, not-false}
 use borrow.Author.Needs.{needs}
 use Rattle.shape.proofs.chunks.chunk_right.Statement.{statement}
 use Rattle.shape.proofs.chunks.chunk_right.Tie as tie
-use Rattle.shape.proofs.chunks.chunk_right.Reads as reads
-use Rattle.shape.proofs.chunks.chunk_right.Lts as lts
-use Rattle.shape.proofs.chunks.ascends.Reads as ascends-reads
-use Rattle.shape.proofs.chunks.row_right.Reads as row-right-reads
-use Rattle.shape.proofs.chunks.slots_right.Reads as slots-right-reads
 
 row-right-requires : tie.Need-row-right-requires
 row-right-requires c κs = search needs

@@ -1,6 +1,5 @@
-use Prim.Native.Nat.{ℕ, _+_, _*_, _-_, _≤_}
-use mathlib.Core.Path.{_≡_, refl, sym, _∙_, ap}
-use mathlib.Core.Bool.{Bool}
+use Prim.Native.Nat.{_-_}
+use mathlib.Core.Path.{_≡_, sym, _∙_}
 use native.Mathlib.Omega.{arith}
 use borrow.Author.Needs.{needs}
 use borrow.Author.Tests.{not-true, not-false}
@@ -10,10 +9,6 @@ use Rattle.shape.specs.Parts.{listed}
 use Rattle.shape.proofs.Rows.{rest, each-start, each-end, each-fails, each-passes}
 use Rattle.shape.proofs.chunks.chunks_right.Statement.{statement}
 use Rattle.shape.proofs.chunks.chunks_right.Tie as tie
-use Rattle.shape.proofs.chunks.chunks_right.Reads as reads
-use Rattle.shape.proofs.chunks.chunks_right.Lts as lts
-use Rattle.rows.proofs.chunk_row.Reads as chunk-row-reads
-use Rattle.shape.proofs.chunks.chunk_right.Reads as chunk-right-reads
 
 abbrev Inv-loop : tie.InvT-loop
 Inv-loop z chunks entries size i₀ i = each (chunkRight z (listed z entries)) 0 (chunkRows (z .chunks) chunks) ≡ rest (chunkRight z (listed z entries)) (chunkOf chunks) size i

@@ -1,13 +1,11 @@
-use mathlib.Core.Path.{_≡_, refl, sym}
+use mathlib.Core.Path.{_≡_, sym}
 use mathlib.Core.Bool.{Bool, true, false, _||_}
-use Prim.Native.Nat.{ℕ, _+_}
+use Prim.Native.Nat.{ℕ}
 use native.Mathlib.Numerals.{add-one}
 use lib.Dec.{leb, ltb, leb·zero}
 use Rattle.shape.specs.Parts.{least}
 use Rattle.shape.proofs.chunks.follows.Statement.{statement}
 use Rattle.shape.proofs.chunks.follows.Tie as tie
-use Rattle.shape.proofs.chunks.follows.Reads as reads
-use Rattle.shape.proofs.chunks.follows.Lts as lts
 
 returns : tie.Need-returns
 returns c = go (c .args .start) (c .args .last) (c .args .key)

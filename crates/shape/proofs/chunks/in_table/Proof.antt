@@ -1,8 +1,6 @@
 use Rattle.shape.proofs.Tests.{or-is}
 use Rattle.shape.proofs.chunks.in_table.Statement.{statement}
 use Rattle.shape.proofs.chunks.in_table.Tie as tie
-use Rattle.shape.proofs.chunks.in_table.Reads as reads
-use Rattle.shape.proofs.chunks.in_table.Lts as lts
 
 returns : tie.Need-returns
 returns c = simp or-is

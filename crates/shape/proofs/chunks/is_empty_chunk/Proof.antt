@@ -1,8 +1,6 @@
 use Rattle.shape.proofs.Tests.{and-and, and-is}
 use Rattle.shape.proofs.chunks.is_empty_chunk.Statement.{statement}
 use Rattle.shape.proofs.chunks.is_empty_chunk.Tie as tie
-use Rattle.shape.proofs.chunks.is_empty_chunk.Reads as reads
-use Rattle.shape.proofs.chunks.is_empty_chunk.Lts as lts
 
 returns : tie.Need-returns
 returns c = simp (and-and, and-is)

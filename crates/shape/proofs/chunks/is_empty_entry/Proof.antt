@@ -1,8 +1,6 @@
 use Rattle.shape.proofs.Tests.{and-and, and-is}
 use Rattle.shape.proofs.chunks.is_empty_entry.Statement.{statement}
 use Rattle.shape.proofs.chunks.is_empty_entry.Tie as tie
-use Rattle.shape.proofs.chunks.is_empty_entry.Reads as reads
-use Rattle.shape.proofs.chunks.is_empty_entry.Lts as lts
 
 returns : tie.Need-returns
 returns c = simp (and-and, and-is)

@@ -1,13 +1,9 @@
-use mathlib.Core.Path.{_∙_, sym}
+use mathlib.Core.Path.{_∙_}
 use borrow.Author.Tests.{eq-eqb, ne-eqb}
 use Rattle.shape.proofs.Tests.{and-and, and-is}
 use borrow.Author.Needs.{needs}
 use Rattle.shape.proofs.chunks.row_right.Statement.{statement}
 use Rattle.shape.proofs.chunks.row_right.Tie as tie
-use Rattle.shape.proofs.chunks.row_right.Reads as reads
-use Rattle.shape.proofs.chunks.row_right.Lts as lts
-use Rattle.shape.proofs.chunks.in_table.Reads as in-table-reads
-use Rattle.shape.proofs.chunks.is_empty_chunk.Reads as is-empty-chunk-reads
 
 is-empty-chunk-requires : tie.Need-is-empty-chunk-requires
 is-empty-chunk-requires c κs = search needs

@@ -1,13 +1,9 @@
-use mathlib.Core.Path.{_∙_, sym}
+use mathlib.Core.Path.{_∙_}
 use borrow.Author.Tests.{lt-ltb, le-ltb}
 use Rattle.shape.proofs.Tests.{and-is}
 use borrow.Author.Needs.{needs}
 use Rattle.shape.proofs.chunks.slot_right.Statement.{statement}
 use Rattle.shape.proofs.chunks.slot_right.Tie as tie
-use Rattle.shape.proofs.chunks.slot_right.Reads as reads
-use Rattle.shape.proofs.chunks.slot_right.Lts as lts
-use Rattle.shape.proofs.chunks.in_table.Reads as in-table-reads
-use Rattle.shape.proofs.chunks.is_empty_entry.Reads as is-empty-entry-reads
 
 in-table-requires : tie.Need-in-table-requires
 in-table-requires c κs = search needs

@@ -1,22 +1,17 @@
-use Prim.Native.Nat.{ℕ, _+_, _*_, _-_, _≤_}
-use mathlib.Core.Path.{_≡_, refl, sym, _∙_, ap}
-use mathlib.Core.Bool.{Bool}
+use Prim.Native.Nat.{_*_, _-_}
+use mathlib.Core.Path.{_≡_, sym, _∙_, ap}
 use native.Mathlib.Omega.{arith}
 use borrow.Author.Needs.{needs}
 use borrow.Author.Tests.{not-true, not-false}
 use Rattle.rules.specs.Words.{entryNo}
 use Rattle.rules.specs.Tables.{entryAt}
 use Rattle.rules.specs.Shape.{each, slotsOf, slotRight}
-use Rattle.rows.specs.Rows.{entryOf, entryRows}
+use Rattle.rows.specs.Rows.{entryRows}
 use Rattle.rows.proofs.Laws.{length-rows}
 use Rattle.shape.specs.Parts.{bare}
 use Rattle.shape.proofs.Rows.{rest, each-start, each-end, each-fails, each-passes, slots-rows}
 use Rattle.shape.proofs.chunks.slots_right.Statement.{statement}
 use Rattle.shape.proofs.chunks.slots_right.Tie as tie
-use Rattle.shape.proofs.chunks.slots_right.Reads as reads
-use Rattle.shape.proofs.chunks.slots_right.Lts as lts
-use Rattle.rows.proofs.entry_at.Reads as entry-at-reads
-use Rattle.shape.proofs.chunks.slot_right.Reads as slot-right-reads
 
 abbrev Inv-loop : tie.InvT-loop
 Inv-loop z entries c used size i₀ i = each (slotRight z (bare z) used) 0 (slotsOf z (entryRows (z .chunks * z .entries) entries) c) ≡ rest (slotRight z (bare z) used) (λ e. entryAt z (entryRows (z .chunks * z .entries) entries) c (entryNo e)) size i

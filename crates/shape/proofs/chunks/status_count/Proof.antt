@@ -1,15 +1,11 @@
-use Prim.Native.Nat.{ℕ, _+_, _*_, _-_, _≤_}
-use mathlib.Core.Path.{_≡_, refl, sym, _∙_, ap}
+use Prim.Native.Nat.{_+_, _-_, _≤_}
+use mathlib.Core.Path.{_≡_}
 use native.Mathlib.Omega.{arith}
-use borrow.Author.Needs.{needs}
 use Rattle.rows.specs.Rows.{chunkRows, chunkOf}
 use Rattle.shape.specs.Parts.{countOf}
 use Rattle.shape.proofs.Chain.{left-of, count-start, count-end, count-one, count-none}
 use Rattle.shape.proofs.chunks.status_count.Statement.{statement}
 use Rattle.shape.proofs.chunks.status_count.Tie as tie
-use Rattle.shape.proofs.chunks.status_count.Reads as reads
-use Rattle.shape.proofs.chunks.status_count.Lts as lts
-use Rattle.rows.proofs.chunk_row.Reads as chunk-row-reads
 
 abbrev Inv-loop : tie.InvT-loop
 Inv-loop chunks status size n₀ i₀ n i = (countOf status (chunkRows size chunks) ≡ n + left-of status (chunkOf chunks) size i) × (n ≤ i)

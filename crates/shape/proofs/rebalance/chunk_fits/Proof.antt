@@ -1,12 +1,8 @@
-use mathlib.Core.Path.{_≡_, sym, _∙_}
 use borrow.Author.Tests.{eq-eqb, ne-eqb}
 use Rattle.shape.proofs.Tests.{and-is, or-is, or-gives}
 use borrow.Author.Needs.{needs}
 use Rattle.shape.proofs.rebalance.chunk_fits.Statement.{statement}
 use Rattle.shape.proofs.rebalance.chunk_fits.Tie as tie
-use Rattle.shape.proofs.rebalance.chunk_fits.Reads as reads
-use Rattle.shape.proofs.rebalance.chunk_fits.Lts as lts
-use Rattle.shape.proofs.rebalance.one_of.Reads as one-of-reads
 
 one-of-requires : tie.Need-one-of-requires
 one-of-requires c κs = search needs

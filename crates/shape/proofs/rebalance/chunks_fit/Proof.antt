@@ -1,5 +1,5 @@
-use Prim.Native.Nat.{ℕ, _+_, _*_, _-_, _≤_}
-use mathlib.Core.Path.{_≡_, refl, sym, _∙_, ap}
+use Prim.Native.Nat.{_-_}
+use mathlib.Core.Path.{_≡_, sym, _∙_}
 use native.Mathlib.Omega.{arith}
 use borrow.Author.Needs.{needs}
 use borrow.Author.Tests.{not-true, not-false}
@@ -9,10 +9,6 @@ use Rattle.shape.specs.Parts.{bare}
 use Rattle.shape.proofs.Rows.{rest, each-start, each-end, each-fails, each-passes}
 use Rattle.shape.proofs.rebalance.chunks_fit.Statement.{statement}
 use Rattle.shape.proofs.rebalance.chunks_fit.Tie as tie
-use Rattle.shape.proofs.rebalance.chunks_fit.Reads as reads
-use Rattle.shape.proofs.rebalance.chunks_fit.Lts as lts
-use Rattle.rows.proofs.chunk_row.Reads as chunk-row-reads
-use Rattle.shape.proofs.rebalance.chunk_fits.Reads as chunk-fits-reads
 
 abbrev Inv-loop : tie.InvT-loop
 Inv-loop z chunks d size i₀ i = each (chunkFits z (bare z) d) 0 (chunkRows (z .chunks) chunks) ≡ rest (chunkFits z (bare z) d) (chunkOf chunks) size i

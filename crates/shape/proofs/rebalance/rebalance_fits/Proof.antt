@@ -1,14 +1,9 @@
-use mathlib.Core.Path.{_≡_, sym, _∙_, ap}
+use mathlib.Core.Path.{sym, _∙_}
 use borrow.Author.Tests.{not-true, not-false}
 use Rattle.shape.proofs.Chain.{unused-is}
 use borrow.Author.Needs.{needs}
 use Rattle.shape.proofs.rebalance.rebalance_fits.Statement.{statement}
 use Rattle.shape.proofs.rebalance.rebalance_fits.Tie as tie
-use Rattle.shape.proofs.rebalance.rebalance_fits.Reads as reads
-use Rattle.shape.proofs.rebalance.rebalance_fits.Lts as lts
-use Rattle.shape.proofs.chunks.status_count.Reads as status-count-reads
-use Rattle.shape.proofs.rebalance.chunks_fit.Reads as chunks-fit-reads
-use Rattle.shape.proofs.rebalance.stage_fits.Reads as stage-fits-reads
 
 status-count-requires : tie.Need-status-count-requires
 status-count-requires c κs = search needs

@@ -1,12 +1,8 @@
-use mathlib.Core.Path.{_≡_, sym, _∙_}
 use borrow.Author.Tests.{eq-eqb, ne-eqb}
 use Rattle.shape.proofs.Tests.{and-and, and-is, or-gives}
 use borrow.Author.Needs.{needs}
 use Rattle.shape.proofs.rebalance.stage_fits.Statement.{statement}
 use Rattle.shape.proofs.rebalance.stage_fits.Tie as tie
-use Rattle.shape.proofs.rebalance.stage_fits.Reads as reads
-use Rattle.shape.proofs.rebalance.stage_fits.Lts as lts
-use Rattle.shape.proofs.chunks.in_table.Reads as in-table-reads
 
 in-table-requires : tie.Need-in-table-requires
 in-table-requires c κs = search needs

@@ -1,12 +1,10 @@
-use mathlib.Core.Path.{_≡_, refl, sym, _∙_, ap}
+use mathlib.Core.Path.{refl, sym}
 use lib.ListN.{List·getD-eq-default}
-use Rattle.rules.specs.Shape.{each, stageList}
+use Rattle.rules.specs.Shape.{stageList}
 use Rattle.shape.proofs.Holds.{table-listed}
 use borrow.Author.Needs.{needs}
 use Rattle.shape.proofs.stages.stage_holds.Statement.{statement}
 use Rattle.shape.proofs.stages.stage_holds.Tie as tie
-use Rattle.shape.proofs.stages.stage_holds.Reads as reads
-use Rattle.shape.proofs.stages.stage_holds.Lts as lts
 
 mul-result : tie.Need-mul-result
 mul-result c = search needs

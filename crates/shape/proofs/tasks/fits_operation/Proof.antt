@@ -4,8 +4,6 @@ use borrow.Author.Tests.{ne-eqb}
 use Rattle.shape.proofs.Tests.{and-is, or-is}
 use Rattle.shape.proofs.tasks.fits_operation.Statement.{statement}
 use Rattle.shape.proofs.tasks.fits_operation.Tie as tie
-use Rattle.shape.proofs.tasks.fits_operation.Reads as reads
-use Rattle.shape.proofs.tasks.fits_operation.Lts as lts
 
 returns : tie.Need-returns
 returns c = let e : c .before .args .op ≡ 1 = c .match .keys1 in rw e (simp and-is)

@@ -1,8 +1,6 @@
 use borrow.Author.Tests.{eq-eqb, ne-eqb}
 use Rattle.shape.proofs.tasks.flagged.Statement.{statement}
 use Rattle.shape.proofs.tasks.flagged.Tie as tie
-use Rattle.shape.proofs.tasks.flagged.Reads as reads
-use Rattle.shape.proofs.tasks.flagged.Lts as lts
 
 returns : tie.Need-returns
 returns c = rw (eq-eqb (c .before .args .how) 2 (c .if1 .taken))

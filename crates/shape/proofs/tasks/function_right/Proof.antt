@@ -1,8 +1,6 @@
 use Rattle.shape.proofs.Tests.{and-is, or-gives}
 use Rattle.shape.proofs.tasks.function_right.Statement.{statement}
 use Rattle.shape.proofs.tasks.function_right.Tie as tie
-use Rattle.shape.proofs.tasks.function_right.Reads as reads
-use Rattle.shape.proofs.tasks.function_right.Lts as lts
 
 returns : tie.Need-returns
 returns c = rw (or-gives _ _ _ (c .if1 .taken)) (simp and-is)

@@ -3,9 +3,6 @@ use borrow.Author.Tests.{eq-eqb, ne-eqb}
 use borrow.Author.Needs.{needs}
 use Rattle.shape.proofs.tasks.held.Statement.{statement}
 use Rattle.shape.proofs.tasks.held.Tie as tie
-use Rattle.shape.proofs.tasks.held.Reads as reads
-use Rattle.shape.proofs.tasks.held.Lts as lts
-use Rattle.shape.proofs.chunks.in_table.Reads as in-table-reads
 
 returns : tie.Need-returns
 returns c = rw (eq-eqb (c .before .args .how) 0 (c .if1 .taken))

@@ -1,15 +1,10 @@
 use lib.Dec.{ltb, eqb}
 use Rattle.shape.proofs.Tests.{both-fail, both-hold}
-use mathlib.Core.Path.{_≡_, sym, _∙_}
+use mathlib.Core.Path.{sym, _∙_}
 use borrow.Author.Tests.{eq-eqb, ne-eqb, not-true, not-false}
 use borrow.Author.Needs.{needs}
 use Rattle.shape.proofs.tasks.holds_entry.Statement.{statement}
 use Rattle.shape.proofs.tasks.holds_entry.Tie as tie
-use Rattle.shape.proofs.tasks.holds_entry.Reads as reads
-use Rattle.shape.proofs.tasks.holds_entry.Lts as lts
-use Rattle.rows.proofs.chunk_at.Reads as chunk-at-reads
-use Rattle.rows.proofs.entry_at.Reads as entry-at-reads
-use Rattle.shape.proofs.tasks.is_linked.Reads as is-linked-reads
 
 chunk-at-requires : tie.Need-chunk-at-requires
 chunk-at-requires c κs = search needs

@@ -1,4 +1,4 @@
-use mathlib.Core.Path.{_≡_, sym, _∙_}
+use mathlib.Core.Path.{sym, _∙_}
 use borrow.Author.Tests.{eq-eqb, ne-eqb, lt-ltb, le-ltb, not-true, not-false}
 use native.Mathlib.Omega.{arith}
 use Rattle.shape.specs.Parts.{kept, holdOf}
@@ -6,11 +6,6 @@ use Rattle.shape.proofs.Holds.{entry-one, entry-none, holds-split, held
 use borrow.Author.Needs.{needs}
 use Rattle.shape.proofs.tasks.holds_right.Statement.{statement}
 use Rattle.shape.proofs.tasks.holds_right.Tie as tie
-use Rattle.shape.proofs.tasks.holds_right.Reads as reads
-use Rattle.shape.proofs.tasks.holds_right.Lts as lts
-use Rattle.rows.proofs.chunk_at.Reads as chunk-at-reads
-use Rattle.shape.proofs.tasks.holds_entry.Reads as holds-entry-reads
-use Rattle.shape.proofs.tasks.numbers_right.Reads as numbers-right-reads
 
 numbers-right-requires : tie.Need-numbers-right-requires
 numbers-right-requires c κs = search needs

@@ -1,8 +1,6 @@
 use Rattle.shape.proofs.Tests.{and-is, and-and}
 use Rattle.shape.proofs.tasks.is_idle.Statement.{statement}
 use Rattle.shape.proofs.tasks.is_idle.Tie as tie
-use Rattle.shape.proofs.tasks.is_idle.Reads as reads
-use Rattle.shape.proofs.tasks.is_idle.Lts as lts
 
 returns : tie.Need-returns
 returns c = simp (and-is, and-and)

@@ -1,5 +1,5 @@
-use Prim.Native.Nat.{ℕ, _+_, _*_, _-_, _≤_}
-use mathlib.Core.Path.{_≡_, refl, sym, _∙_, ap}
+use Prim.Native.Nat.{_*_, _-_}
+use mathlib.Core.Path.{_≡_, refl, sym, _∙_}
 use native.Mathlib.Omega.{arith}
 use borrow.Author.Needs.{needs}
 use Rattle.rules.specs.Shape.{linkedFrom}
@@ -7,9 +7,6 @@ use Rattle.rows.specs.Rows.{entryRows}
 use Rattle.shape.proofs.Lists.{linked-spent, linked-past, linked-here, linked-next}
 use Rattle.shape.proofs.tasks.is_linked.Statement.{statement}
 use Rattle.shape.proofs.tasks.is_linked.Tie as tie
-use Rattle.shape.proofs.tasks.is_linked.Reads as reads
-use Rattle.shape.proofs.tasks.is_linked.Lts as lts
-use Rattle.rows.proofs.entry_at.Reads as entry-at-reads
 
 abbrev Inv-loop : tie.InvT-loop
 Inv-loop z entries c x at₀ left₀ at left = linkedFrom z (entryRows (z .chunks * z .entries) entries) c (z .entries) at₀ x ≡ linkedFrom z (entryRows (z .chunks * z .entries) entries) c left at x

@@ -3,10 +3,6 @@ use Rattle.shape.proofs.Tests.{and-six}
 use borrow.Author.Needs.{needs}
 use Rattle.shape.proofs.tasks.numbers_right.Statement.{statement}
 use Rattle.shape.proofs.tasks.numbers_right.Tie as tie
-use Rattle.shape.proofs.tasks.numbers_right.Reads as reads
-use Rattle.shape.proofs.tasks.numbers_right.Lts as lts
-use Rattle.shape.proofs.tasks.flagged.Reads as flagged-reads
-use Rattle.shape.proofs.tasks.held.Reads as held-reads
 
 held-requires : tie.Need-held-requires
 held-requires c κs = search needs

@@ -1,15 +1,8 @@
-use mathlib.Core.Path.{_≡_, sym, _∙_}
+use mathlib.Core.Path.{sym, _∙_}
 use borrow.Author.Tests.{eq-eqb, ne-eqb, not-true, not-false}
 use borrow.Author.Needs.{needs}
 use Rattle.shape.proofs.tasks.task_right.Statement.{statement}
 use Rattle.shape.proofs.tasks.task_right.Tie as tie
-use Rattle.shape.proofs.tasks.task_right.Reads as reads
-use Rattle.shape.proofs.tasks.task_right.Lts as lts
-use Rattle.shape.proofs.stages.stage_holds.Reads as stage-holds-reads
-use Rattle.shape.proofs.tasks.fits_operation.Reads as fits-operation-reads
-use Rattle.shape.proofs.tasks.function_right.Reads as function-right-reads
-use Rattle.shape.proofs.tasks.holds_right.Reads as holds-right-reads
-use Rattle.shape.proofs.tasks.is_idle.Reads as is-idle-reads
 
 is-idle-requires : tie.Need-is-idle-requires
 is-idle-requires c κs = search needs

@@ -1,5 +1,5 @@
-use Prim.Native.Nat.{ℕ, _+_, _*_, _-_, _≤_}
-use mathlib.Core.Path.{_≡_, refl, sym, _∙_, ap}
+use Prim.Native.Nat.{_-_}
+use mathlib.Core.Path.{_≡_, sym, _∙_}
 use native.Mathlib.Omega.{arith}
 use borrow.Author.Needs.{needs}
 use borrow.Author.Tests.{not-true, not-false}
@@ -9,10 +9,6 @@ use Rattle.shape.specs.Parts.{kept}
 use Rattle.shape.proofs.Rows.{rest, each-start, each-end, each-fails, each-passes}
 use Rattle.shape.proofs.tasks.tasks_right.Statement.{statement}
 use Rattle.shape.proofs.tasks.tasks_right.Tie as tie
-use Rattle.shape.proofs.tasks.tasks_right.Reads as reads
-use Rattle.shape.proofs.tasks.tasks_right.Lts as lts
-use Rattle.rows.proofs.task_row.Reads as task-row-reads
-use Rattle.shape.proofs.tasks.task_right.Reads as task-right-reads
 
 abbrev Inv-loop : tie.InvT-loop
 Inv-loop z tasks chunks entries size i₀ i = each (taskRight z (kept z chunks entries)) 0 (taskRows (z .tasks) tasks) ≡ rest (taskRight z (kept z chunks entries)) (taskOf tasks) size i
