@@ -44,6 +44,29 @@ module _ {A : Type 0} where
   pub row-read : (f : ℕ → A) (n j : ℕ) (d : A) → j < n → getD (rowsFrom f 0 n) j d ≡ f j
   row-read f n j d h = from f 0 n j d h ∙ ap f (zero-add j)
 
+  -- the rows from i on, of n
+  pub rows-step : (f : ℕ → A) (n i : ℕ) → i < n → rowsFrom f i (n - i) ≡ f i ∷ rowsFrom f (i + 1) (n - (i + 1))
+  unfolding rowsFrom
+  rows-step f n i h = go (n - i) (n - (i + 1)) (omega arith)
+    where
+      go : (m k : ℕ) → m ≡ k + 1 → rowsFrom f i m ≡ f i ∷ rowsFrom f (i + 1) k
+      go m k e = rw (e, add-one)
+
+  pub rows-done : (f : ℕ → A) (n i : ℕ) → n ≤ i → rowsFrom f i (n - i) ≡ []
+  unfolding rowsFrom
+  rows-done f n i h = go (n - i) (omega arith)
+    where
+      go : (m : ℕ) → m ≡ 0 → rowsFrom f i m ≡ []
+      go m e = rw e
+
+  pub drop-rows : (f : ℕ → A) (n i : ℕ) → i ≤ n → drop i (rowsFrom f 0 n) ≡ rowsFrom f i (n - i)
+  unfolding rowsFrom
+  drop-rows f n i h = go i 0 n (n - i) (omega arith) ∙ ap (λ (k : ℕ). rowsFrom f k (n - i)) (zero-add i)
+    where
+      go : (j k m r : ℕ) → m ≡ j + r → drop j (rowsFrom f k m) ≡ rowsFrom f (k + j) r
+      go zero k m r e = rw (e, zero-add, add-zero)
+      go (suc j) k m r e = rw (e, suc-add) (go j (k + 1) (j + r) r refl ∙ ap (λ (i : ℕ). rowsFrom f i r) (omega arith))
+
   -- a number past the table
   pub row-past : (f : ℕ → A) (n j : ℕ) (d : A) → n ≤ j → getD (rowsFrom f 0 n) j d ≡ d
   row-past f n j d h = List·getD-eq-default (rowsFrom f 0 n) d (rw length-rows h)

@@ -1,4 +1,4 @@
--- M1 to M12 hold of the rules, at document 01's sizes.
+-- M1 to M12, and one case more, hold of the rules, at document 01's sizes.
 use mathlib.Core.Path.{_≡_, refl}
 use mathlib.Core.List.{map}
 use Rattle.rules.specs.Words.{limits}

@@ -1,4 +1,4 @@
--- The marked cases M1 to M12: each is its calls from fresh tables, every report of them, and what the tables then show (document 01, "Marked cases").
+-- The marked cases M1 to M12, and one more: each is its calls from fresh tables, every report of them, and what the tables then show (document 01, "Marked cases").
 use Prim.Native.Nat.{ℕ, zero, suc, _+_, _-_, _^_}
 use mathlib.Core.List.{List, [], _∷_, _++_, map}
 use lib.ListN.{length}
@@ -177,5 +177,21 @@ m12 =
     ++ reports (start 0 scan 6 5 0) (report.Refused 4)
     ∷ []
 
+-- one more, of "Errors a good builder makes": after M2 a remove sets its mark before a compute applies, and the compute goes on to make sure that the key is gone
+abbrev pub lost : List Line
+lost =
+    m2
+    ++ reports (start 0 compute 5 1 1) report.Moved
+    ∷ moves 0 4
+    ++ reports (start 1 remove 5 0 0) report.Moved
+    ∷ moves 1 5
+    ++ moves 0 3
+    ++ shows (naming 0) 0
+    ∷ reports (step 0) report.False
+    ∷ moves 1 2
+    ++ reports (step 1) report.True
+    ∷ shaped
+    ∷ []
+
 abbrev pub markedCases : List (List Line)
-markedCases = m1 ∷ m2 ∷ m3 ∷ m4 ∷ m5 ∷ m6 ∷ m7 ∷ m8 ∷ m9 ∷ m10 ∷ m10two ∷ m11 ∷ m12 ∷ []
+markedCases = m1 ∷ m2 ∷ m3 ∷ m4 ∷ m5 ∷ m6 ∷ m7 ∷ m8 ∷ m9 ∷ m10 ∷ m10two ∷ m11 ∷ m12 ∷ lost ∷ []

@@ -6,5 +6,6 @@ pub mod Stages
 pub mod Rebalance
 pub mod Shape
 pub mod Calls
+pub mod Occasions
 pub mod Map
 pub mod Cases

@@ -184,7 +184,7 @@ module _ (z : Sizes) (s : Tables) where
       let d = s .directory in
       let none = isNone (d .new .0) and isNone (d .second .0) in
       let before = none and ltb (d .old .0) (z .chunks) and leb 2 (unusedCount (s .chunks)) in
-      let after = ltb (d .old .0) (z .chunks) and ltb (d .new .0) (z .chunks) and numbers (z .chunks) (d .second .0) and not (eqb (d .new .0) (d .second .0)) in
+      let after = ltb (d .old .0) (z .chunks) and ltb (d .new .0) (z .chunks) and numbers (z .chunks) (d .second .0) and not (eqb (d .new .0) (d .second .0)) and not (eqb (d .old .0) (d .new .0)) and not (eqb (d .old .0) (d .second .0)) in
       let stages =
       pick (eqb (d .stage) idle) (isNone (d .old .0) and none)
       (pick (eqb (d .stage) toDrain or eqb (d .stage) toCopy) before

@@ -1,0 +1,155 @@
+// What a stage's outcome is made of: a task's row afterwards, and the decision.
+use rules::ChunkNo;
+use rules::Decision;
+use rules::EntryNo;
+use rules::HandleNo;
+use rules::NONE;
+use rules::Report;
+use rules::Task;
+use rules::Write;
+ghost use mathlib.Core.Path.{_≡_};
+ghost use mathlib.Core.Bool.{Bool};
+ghost use Rattle.rules.specs.declared.Write.the-variants as write;
+ghost use Rattle.rules.specs.Words.{inserts};
+ghost use Rattle.rules.specs.Stages.{goesTo, keeps, cursorAt, moves, restarts, finishes, finishesAbsent};
+
+// The operation goes on at a stage, holding what is named.
+pub fn goes_to(
+    t: Task,
+    stage: u64,
+    chunk: ChunkNo,
+    entry: EntryNo,
+    old: HandleNo,
+    new: HandleNo,
+    published: u64,
+    swapped: u64,
+) -> Task
+    ensures { λ r. ⌜ r ≡ goesTo t stage chunk entry old new published swapped ⌝ }
+{
+    Task {
+        stage,
+        operation: t.operation,
+        function: t.function,
+        key: t.key,
+        argument: t.argument,
+        chunk,
+        entry,
+        old,
+        new,
+        published,
+        swapped,
+    }
+}
+
+// The same holds, at another stage.
+pub fn keeps(t: Task, stage: u64) -> Task
+    ensures { λ r. ⌜ r ≡ keeps t stage ⌝ }
+{
+    let mut next = t;
+    next.stage = stage;
+    next
+}
+
+// A scan goes on from another cursor.
+pub fn cursor_at(t: Task, key: u64) -> Task
+    ensures { λ r. ⌜ r ≡ cursorAt t key ⌝ }
+{
+    let mut next = t;
+    next.key = key;
+    next
+}
+
+// A stage moves on, holding what is named.
+pub fn moves_to(
+    t: Task,
+    stage: u64,
+    chunk: ChunkNo,
+    entry: EntryNo,
+    old: HandleNo,
+    new: HandleNo,
+    published: u64,
+    swapped: u64,
+    w: Write,
+) -> Decision
+    ensures { λ r. ⌜ r ≡ moves (goesTo t stage chunk entry old new published swapped) w ⌝ }
+{
+    Decision {
+        task: goes_to(t, stage, chunk, entry, old, new, published, swapped),
+        write: w,
+        report: Report::Moved,
+    }
+}
+
+// A stage moves on, holding the same.
+pub fn moves_keeping(t: Task, stage: u64, w: Write) -> Decision
+    ensures { λ r. ⌜ r ≡ moves (keeps t stage) w ⌝ }
+{
+    Decision {
+        task: keeps(t, stage),
+        write: w,
+        report: Report::Moved,
+    }
+}
+
+// A scan moves on, from another cursor.
+pub fn moves_cursor(t: Task, key: u64, answer: Report) -> Decision
+    ensures { λ r. ⌜ r ≡ record { task = cursorAt t key; write = write.Nothing; report = answer } ⌝ }
+{
+    Decision {
+        task: cursor_at(t, key),
+        write: Write::Nothing,
+        report: answer,
+    }
+}
+
+// What is held is dropped; operation, key and arguments stay.
+pub fn restarts(t: Task, why: Report) -> Decision
+    ensures { λ r. ⌜ r ≡ restarts t why ⌝ }
+{
+    Decision {
+        task: goes_to(
+            t,
+            1,
+            ChunkNo(NONE),
+            EntryNo(NONE),
+            HandleNo(NONE),
+            HandleNo(NONE),
+            0,
+            0,
+        ),
+        write: Write::Nothing,
+        report: why,
+    }
+}
+
+// The whole row is cleared.
+pub fn finishes(w: Write, answer: Report) -> Decision
+    ensures { λ r. ⌜ r ≡ finishes w answer ⌝ }
+{
+    Decision {
+        task: rows::idle_task(),
+        write: w,
+        report: answer,
+    }
+}
+
+// A get answers absent, a compute or remove false.
+pub fn finishes_absent(t: Task) -> Decision
+    ensures { λ r. ⌜ r ≡ finishesAbsent t ⌝ }
+{
+    if t.operation == 1 {
+        finishes(Write::Nothing, Report::Absent)
+    } else {
+        finishes(Write::Nothing, Report::False)
+    }
+}
+
+// Put, putIfAbsent and upsert.
+pub fn inserts(operation: u64) -> bool
+    ensures { λ r. ⌜ r ≡ inserts operation ⌝ }
+{
+    if operation < 2 {
+        return false;
+    }
+    operation <= 4
+}

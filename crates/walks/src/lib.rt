@@ -1,0 +1,247 @@
+// The walks: along the live chunks, along a chunk's list, and through the rows of a table.
+use rules::Chunk;
+use rules::ChunkNo;
+use rules::Entry;
+use rules::EntryNo;
+use rules::HandleNo;
+use rules::NONE;
+use rules::Sizes;
+use rules::Task;
+ghost use mathlib.Core.Path.{_≡_};
+ghost use mathlib.Core.Bool.{Bool};
+ghost use Prim.Native.Nat.{ℕ, _+_, _*_, _<_, _≤_};
+ghost use lib.ListN.{length, drop};
+ghost use Rattle.rules.specs.Words.{noEntry};
+ghost use Rattle.rules.specs.Walks.{locateFrom, beforeFrom, findFrom, placeFrom, namedIn, heldIn, free, freeFrom};
+ghost use Rattle.rules.specs.Rebalance.{unusedCount, unusedFrom, publishedOn, heldChunk};
+ghost use Rattle.rows.specs.Rows.{taskRows, chunkRows, entryRows};
+
+// ---- along the live chunks
+
+// The last chunk from the first on whose minimum key is at most the key.
+pub fn locate(z: Sizes, chunks: &[u64], first: ChunkNo, k: u64) -> ChunkNo
+    requires { ⌜ length (now chunks) ≡ z .chunks * 6 ⌝ }
+    ensures { λ r. ⌜ r ≡ locateFrom z (chunkRows (z .chunks) (now (chunks .entry))) (z .chunks) first k ⌝ }
+{
+    let mut at = first.0;
+    let mut next = rows::chunk_at(z, chunks, first).next.0;
+    let mut left = z.chunks;
+    while 0 < left {
+        let i = next as usize;
+        if z.chunks <= i {
+            return ChunkNo(at);
+        }
+        let x = rows::chunk_at(z, chunks, ChunkNo(next));
+        if k < x.min {
+            return ChunkNo(at);
+        }
+        at = next;
+        next = x.next.0;
+        left -= 1;
+    }
+    ChunkNo(at)
+}
+
+// The chunk from the first on whose next is the given one, or none.
+pub fn before(z: Sizes, chunks: &[u64], first: ChunkNo, x: ChunkNo) -> ChunkNo
+    requires { ⌜ length (now chunks) ≡ z .chunks * 6 ⌝ }
+    ensures { λ r. ⌜ r ≡ beforeFrom z (chunkRows (z .chunks) (now (chunks .entry))) (z .chunks) first x ⌝ }
+{
+    let mut at = first.0;
+    let mut left = z.chunks;
+    while 0 < left {
+        let next = rows::chunk_at(z, chunks, ChunkNo(at)).next.0;
+        if next == x.0 {
+            return ChunkNo(at);
+        }
+        let i = next as usize;
+        if z.chunks <= i {
+            return ChunkNo(NONE);
+        }
+        at = next;
+        left -= 1;
+    }
+    ChunkNo(NONE)
+}
+
+// ---- along a chunk's list
+
+// The linked entry with the key, from the head on, or none.
+pub fn find(z: Sizes, entries: &[u64], c: ChunkNo, head: EntryNo, k: u64) -> EntryNo
+    requires { ⌜ (c .0 < z .chunks) × (length (now entries) ≡ z .chunks * z .entries * 3) ⌝ }
+    ensures { λ r. ⌜ r ≡ findFrom z (entryRows (z .chunks * z .entries) (now (entries .entry))) c (z .entries) head k ⌝ }
+{
+    let mut at = head.0;
+    let mut left = z.entries;
+    while 0 < left {
+        let i = at as usize;
+        if z.entries <= i {
+            return EntryNo(NONE);
+        }
+        let x = rows::entry_at(z, entries, c, EntryNo(at));
+        if x.key == k {
+            return EntryNo(at);
+        }
+        at = x.next.0;
+        left -= 1;
+    }
+    EntryNo(NONE)
+}
+
+// The last linked entry from the head on with a key below the given one, or none.
+pub fn place(z: Sizes, entries: &[u64], c: ChunkNo, head: EntryNo, k: u64) -> EntryNo
+    requires { ⌜ (c .0 < z .chunks) × (length (now entries) ≡ z .chunks * z .entries * 3) ⌝ }
+    ensures { λ r. ⌜ r ≡ placeFrom z (entryRows (z .chunks * z .entries) (now (entries .entry))) c (z .entries) noEntry head k ⌝ }
+{
+    let mut below = NONE;
+    let mut at = head.0;
+    let mut left = z.entries;
+    while 0 < left {
+        let i = at as usize;
+        if z.entries <= i {
+            return EntryNo(below);
+        }
+        let x = rows::entry_at(z, entries, c, EntryNo(at));
+        if k <= x.key {
+            return EntryNo(below);
+        }
+        below = at;
+        at = x.next.0;
+        left -= 1;
+    }
+    EntryNo(below)
+}
+
+// ---- which handle is free
+
+// An entry of the first `n` rows names the handle.
+pub fn named_in(n: usize, entries: &[u64], h: u64) -> bool
+    requires { ⌜ n * 3 ≤ length (now entries) ⌝ }
+    ensures { λ r. ⌜ r ≡ namedIn (entryRows n (now (entries .entry))) h ⌝ }
+{
+    let mut i = 0;
+    while i < n {
+        let x = rows::entry_row(entries, i);
+        if x.handle.0 == h {
+            return true;
+        }
+        i += 1;
+    }
+    false
+}
+
+// A task of the first `n` rows holds the handle.
+pub fn held_in(n: usize, tasks: &[u64], h: u64) -> bool
+    requires { ⌜ n * 11 ≤ length (now tasks) ⌝ }
+    ensures { λ r. ⌜ r ≡ heldIn (taskRows n (now (tasks .entry))) h ⌝ }
+{
+    let mut i = 0;
+    while i < n {
+        let t = rows::task_row(tasks, i);
+        if t.old.0 == h {
+            return true;
+        }
+        if t.new.0 == h {
+            return true;
+        }
+        i += 1;
+    }
+    false
+}
+
+// No entry names the handle, and no task holds it.
+pub fn is_free(z: Sizes, entries: &[u64], tasks: &[u64], h: u64) -> bool
+    requires { ⌜ (length (now entries) ≡ z .chunks * z .entries * 3) × (length (now tasks) ≡ z .tasks * 11) ⌝ }
+    ensures { λ r. ⌜ r ≡ free (entryRows (z .chunks * z .entries) (now (entries .entry))) (taskRows (z .tasks) (now (tasks .entry))) h ⌝ }
+{
+    if named_in(z.chunks * z.entries, entries, h) {
+        return false;
+    }
+    !held_in(z.tasks, tasks, h)
+}
+
+// The lowest free handle, or none.
+pub fn lowest_free(z: Sizes, entries: &[u64], tasks: &[u64]) -> HandleNo
+    requires { ⌜ (length (now entries) ≡ z .chunks * z .entries * 3) × (length (now tasks) ≡ z .tasks * 11) ⌝ }
+    ensures { λ r. ⌜ r ≡ freeFrom (entryRows (z .chunks * z .entries) (now (entries .entry))) (taskRows (z .tasks) (now (tasks .entry))) (z .handles) 0 ⌝ }
+{
+    let mut h: u64 = 0;
+    let mut left = z.handles;
+    while 0 < left {
+        if is_free(z, entries, tasks, h) {
+            return HandleNo(h);
+        }
+        h += 1;
+        left -= 1;
+    }
+    HandleNo(NONE)
+}
+
+// ---- what the rebalance looks for
+
+// A task of the first `n` rows is published on the chunk.
+pub fn published_on(n: usize, tasks: &[u64], c: ChunkNo) -> bool
+    requires { ⌜ n * 11 ≤ length (now tasks) ⌝ }
+    ensures { λ r. ⌜ r ≡ publishedOn (taskRows n (now (tasks .entry))) c ⌝ }
+{
+    let mut i = 0;
+    while i < n {
+        let t = rows::task_row(tasks, i);
+        if t.published == 1 {
+            if t.chunk.0 == c.0 {
+                return true;
+            }
+        }
+        i += 1;
+    }
+    false
+}
+
+// A task of the first `n` rows holds the chunk.
+pub fn held_chunk(n: usize, tasks: &[u64], c: ChunkNo) -> bool
+    requires { ⌜ n * 11 ≤ length (now tasks) ⌝ }
+    ensures { λ r. ⌜ r ≡ heldChunk (taskRows n (now (tasks .entry))) c ⌝ }
+{
+    let mut i = 0;
+    while i < n {
+        let t = rows::task_row(tasks, i);
+        if t.chunk.0 == c.0 {
+            return true;
+        }
+        i += 1;
+    }
+    false
+}
+
+// How many of the first `n` chunks are unused.
+pub fn unused_count(n: usize, chunks: &[u64]) -> usize
+    requires { ⌜ n * 6 ≤ length (now chunks) ⌝ }
+    ensures { λ r. ⌜ (r ≡ unusedCount (chunkRows n (now (chunks .entry)))) × (r ≤ n) ⌝ }
+{
+    let mut count: usize = 0;
+    let mut i = 0;
+    while i < n {
+        let x = rows::chunk_row(chunks, i);
+        if x.status == 0 {
+            count += 1;
+        }
+        i += 1;
+    }
+    count
+}
+
+// The first unused chunk from the given one on, of `n`, or none.
+pub fn unused_from(n: usize, chunks: &[u64], from: usize) -> ChunkNo
+    requires { ⌜ (n * 6 ≤ length (now chunks)) × (from ≤ n) ⌝ }
+    ensures { λ r. ⌜ r ≡ unusedFrom (drop from (chunkRows n (now (chunks .entry)))) from ⌝ }
+{
+    let mut i = from;
+    while i < n {
+        let x = rows::chunk_row(chunks, i);
+        if x.status == 0 {
+            return ChunkNo(i as u64);
+        }
+        i += 1;
+    }
+    ChunkNo(NONE)
+}
