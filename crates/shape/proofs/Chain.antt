@@ -1,22 +1,23 @@
 -- The walk along the chain, one step, told by the row that the code has read, and the chunks of a status, counted row by row.
 use Prim.Native.Nat.{ℕ, zero, suc, _+_, _-_, _≤_, _<_, zero-le}
-use mathlib.Core.Path.{_≡_, refl}
-use mathlib.Core.Bool.{Bool, true, false}
+use mathlib.Core.Path.{_≡_, refl, sym, ap, _∙_}
+use mathlib.Core.Bool.{Bool, true, false, not}
 use mathlib.Core.List.{List, [], _∷_}
 use native.Mathlib.Nat.{lt-irrefl, le-antisymm}
 use native.Mathlib.Numerals.{sub-one}
 use native.Mathlib.Omega.{arith}
 use lib.Dec.{eqb, leb}
-use borrow.Author.Tests.{lt-ltb, le-ltb, eq-eqb, ne-eqb}
+use borrow.Author.Tests.{lt-ltb, le-ltb, eq-eqb, ne-eqb, not-true, not-false}
 use Rattle.rules.specs.declared.Sizes.{Sizes}
+use Rattle.rules.specs.declared.Directory.{Directory}
 use Rattle.rules.specs.declared.Chunk.{Chunk}
 use Rattle.rules.specs.declared.ChunkNo.{ChunkNo}
 use Rattle.rules.specs.Words.{pick, NONE, live, unused}
 use Rattle.rules.specs.Tables.{chunkAt}
 use Rattle.rules.specs.Rebalance.{unusedCount}
-use Rattle.rules.specs.Shape.{chainCount, liveCount}
-use Rattle.rows.specs.Rows.{rowsFrom}
-use Rattle.shape.specs.Parts.{countOf}
+use Rattle.rules.specs.Shape.{each, chainCount, liveCount, chunkFits, rebalanceFits}
+use Rattle.rows.specs.Rows.{rowsFrom, chunkRows}
+use Rattle.shape.specs.Parts.{bare, headed, countOf, StageFits}
 
 -- the row is live, and its minimum key may follow
 abbrev pub stands : ℕ → Chunk → Bool
@@ -80,10 +81,18 @@ unfolding countOf liveCount
 live-is [] = refl
 live-is (x ∷ l) = rw (live-is l)
 
-pub unused-is : (l : List Chunk) → countOf unused l ≡ unusedCount l
+unused-is : (l : List Chunk) → countOf unused l ≡ unusedCount l
 unfolding countOf unusedCount
 unused-is [] = refl
 unused-is (x ∷ l) = rw (unused-is l)
+
+-- the rebalance's stage asked first, by the count of the unused
+module _ (z : Sizes) (d : Directory) (cs : List ℕ) (n : ℕ) (fits : Bool) (asked : StageFits z d (leb 2 n) fits) (count : n ≡ countOf unused (chunkRows (z .chunks) cs)) where
+  pub stage-fails : not fits ≡ true → rebalanceFits z (headed z d cs) ≡ false
+  stage-fails h = rw (not-true fits h) at (asked cs (ap (leb 2) (sym (count ∙ unused-is _))))
+
+  pub stage-holds : not fits ≡ false → rebalanceFits z (headed z d cs) ≡ each (chunkFits z (bare z) d) 0 (chunkRows (z .chunks) cs)
+  stage-holds h = rw (not-false fits h) at (asked cs (ap (leb 2) (sym (count ∙ unused-is _))))
 
 -- those from row i on, of n
 abbrev pub left-of : ℕ → (ℕ → Chunk) → ℕ → ℕ → ℕ

@@ -1,18 +1,19 @@
 -- The tables that a part of the shape asks, and what it says of them where the rules have no name for it.
 use Prim.Native.Nat.{ℕ, _+_, _*_, _<_}
-use mathlib.Core.Bool.{Bool, true, false, not}
+use mathlib.Core.Bool.{Bool, true, false}
 use mathlib.Core.List.{List, [], _∷_}
 use mathlib.Core.Path.{_≡_}
-use lib.Dec.{eqb, ltb, leb}
+use lib.Dec.{eqb, leb}
 use lib.ListN.{length, getD}
 use Rattle.rules.specs.declared.Sizes.{Sizes}
 use Rattle.rules.specs.declared.Chunk.{Chunk}
 use Rattle.rules.specs.declared.ChunkNo.{ChunkNo}
 use Rattle.rules.specs.declared.Directory.{Directory}
 use Rattle.rules.specs.declared.Task.{Task}
-use Rattle.rules.specs.Words.{pick, _and_, _or_, unused, usesFunction, idle, toDrain, toCopy, toSwap, toRelease}
+use Rattle.rules.specs.Words.{pick, _and_, _or_, unused, usesFunction}
 use Rattle.rules.specs.Tables.{Tables}
-use Rattle.rules.specs.Shape.{isNone, numbers, isEmptyChunk, chunkNumbers, Hold, hold, stageList, heldAs, flagAs}
+use Rattle.rules.specs.Rebalance.{unusedCount}
+use Rattle.rules.specs.Shape.{each, isEmptyChunk, chunkNumbers, Hold, hold, stageList, heldAs, flagAs, chunkFits, rebalanceFits}
 use Rattle.shape.specs.declared.stages.Holds.{Holds}
 use Rattle.rows.specs.Rows.{tables, chunkRows}
 
@@ -92,12 +93,6 @@ pub record Held (z : Sizes) (cs es : List ℕ) (t : Task) : Type 0 where
   pub entries : length es ≡ z .chunks * z .entries * 3
 
 -- ---- the rebalance
--- the rebalance's own numbers fit its stage, where two chunks are unused or not
-abbrev pub stageFits : Sizes → Directory → Bool → Bool
-stageFits z d two =
-    let none = isNone (d .new .0) and isNone (d .second .0) in
-    let before = none and ltb (d .old .0) (z .chunks) and two in
-    let after = ltb (d .old .0) (z .chunks) and ltb (d .new .0) (z .chunks) and numbers (z .chunks) (d .second .0) and not (eqb (d .new .0) (d .second .0)) in
-    pick (eqb (d .stage) idle) (isNone (d .old .0) and none)
-    (pick (eqb (d .stage) toDrain or eqb (d .stage) toCopy) before
-    (pick (eqb (d .stage) toSwap or eqb (d .stage) toRelease) after false))
+-- whether the rebalance's own numbers fit its stage, where two chunks are unused or not: what is left to ask is every chunk
+abbrev pub StageFits : Sizes → Directory → Bool → Bool → Type 0
+StageFits z d two fits = (cs : List ℕ) → leb 2 (unusedCount (chunkRows (z .chunks) cs)) ≡ two → rebalanceFits z (headed z d cs) ≡ (fits and each (chunkFits z (bare z) d) 0 (chunkRows (z .chunks) cs))

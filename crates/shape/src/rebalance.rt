@@ -11,7 +11,7 @@ ghost use lib.ListN.{length};
 ghost use Rattle.rules.specs.Words.{pick};
 ghost use Rattle.rules.specs.Shape.{each, chunkFits, rebalanceFits};
 ghost use Rattle.rows.specs.Rows.{chunkRows};
-ghost use Rattle.shape.specs.Parts.{bare, headed, stageFits};
+ghost use Rattle.shape.specs.Parts.{bare, headed, StageFits};
 
 // The one status or the other.
 fn one_of(test: bool, a: u64, b: u64) -> u64
@@ -53,7 +53,7 @@ fn chunks_fit(z: Sizes, chunks: &[u64], d: Directory) -> bool
 
 // The rebalance's own numbers fit its stage, where two chunks are unused or not.
 fn stage_fits(z: Sizes, d: Directory, two: bool) -> bool
-    ensures { λ r. ⌜ r ≡ stageFits z d two ⌝ }
+    ensures { λ r. ⌜ StageFits z d two r ⌝ }
 {
     let stage = d.stage;
     let old = (d.old.0 as usize) < z.chunks;
@@ -66,7 +66,8 @@ fn stage_fits(z: Sizes, d: Directory, two: bool) -> bool
         return none & old & two;
     }
     if (stage == 3) | (stage == 4) {
-        return old & ((d.new.0 as usize) < z.chunks) & second & (d.new.0 != d.second.0);
+        let apart = (d.new.0 != d.second.0) & (d.old.0 != d.new.0) & (d.old.0 != d.second.0);
+        return old & ((d.new.0 as usize) < z.chunks) & second & apart;
     }
     false
 }

@@ -1,6 +1,5 @@
 use mathlib.Core.Path.{sym, _∙_}
-use borrow.Author.Tests.{not-true, not-false}
-use Rattle.shape.proofs.Chain.{unused-is}
+use Rattle.shape.proofs.Chain.{stage-fails, stage-holds}
 use borrow.Author.Needs.{needs}
 use Rattle.shape.proofs.rebalance.rebalance_fits.Statement.{statement}
 use Rattle.shape.proofs.rebalance.rebalance_fits.Tie as tie
@@ -12,13 +11,13 @@ stage-fits-requires : tie.Need-stage-fits-requires
 stage-fits-requires c κs = search needs
 
 returns : tie.Need-returns
-returns c = rw (← unused-is, ← c .before .before .status-count .ensures) (rw (sym (c .before .stage-fits .ensures) ∙ not-true _ (c .if1 .taken)))
+returns c = let a = c .before .before .before .before .args in sym (stage-fails (a .z) (a .d) (a .chunks .now) _ (c .before .stage-fits .result) (c .before .stage-fits .ensures) (c .before .before .status-count .ensures) (c .if1 .taken))
 
 chunks-fit-requires : tie.Need-chunks-fit-requires
 chunks-fit-requires c κs = search needs
 
 returns-2 : tie.Need-returns-2
-returns-2 c = c .chunks-fit .ensures ∙ rw (← unused-is, ← c .before .before .before .status-count .ensures) (rw (sym (c .before .before .stage-fits .ensures) ∙ not-false _ (c .before .if1 .left)))
+returns-2 c = let a = c .before .before .before .before .before .args in c .chunks-fit .ensures ∙ sym (stage-holds (a .z) (a .d) (a .chunks .now) _ (c .before .before .stage-fits .result) (c .before .before .stage-fits .ensures) (c .before .before .before .status-count .ensures) (c .before .if1 .left))
 
 pub rebalance-fits-spec : {M : Type 1} → statement M
 rebalance-fits-spec =
