@@ -1,0 +1,6 @@
+pub mod Tests
+pub mod Rows
+pub mod Lists
+pub mod Chain
+pub mod Holds
+pub mod Whole

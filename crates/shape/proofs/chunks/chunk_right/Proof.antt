@@ -1,0 +1,29 @@
+use Rattle.shape.proofs.Rows.{used-fits}
+use mathlib.Core.Path.{_∙_, sym}
+use borrow.Author.Tests.{not-true, not-false}
+use borrow.Author.Needs.{needs}
+use Rattle.shape.proofs.chunks.chunk_right.Statement.{statement}
+use Rattle.shape.proofs.chunks.chunk_right.Tie as tie
+
+row-right-requires : tie.Need-row-right-requires
+row-right-requires c κs = search needs
+
+returns : tie.Need-returns
+returns c = rw (sym (c .before .row-right .ensures) ∙ not-true _ (c .if1 .taken))
+
+slots-right-requires : tie.Need-slots-right-requires
+slots-right-requires c κs = search needs
+
+returns-2 : tie.Need-returns-2
+returns-2 c = rw (sym (c .before .before .before .row-right .ensures) ∙ not-false _ (c .before .before .if1 .left), sym (c .before .slots-right .ensures) ∙ not-true _ (c .if2 .taken))
+
+ascends-requires : tie.Need-ascends-requires
+ascends-requires c κs = (c .before .before .before .before .before .pre, used-fits (c .before .before .before .before .before .args .z) (c .before .before .before .before .before .args .x) (sym (c .before .before .before .row-right .ensures) ∙ not-false _ (c .before .before .if1 .left)))
+
+returns-3 : tie.Need-returns-3
+returns-3 c = c .ascends .ensures ∙ rw (sym (c .before .before .before .before .row-right .ensures) ∙ not-false _ (c .before .before .before .if1 .left), sym (c .before .before .slots-right .ensures) ∙ not-false _ (c .before .if2 .left))
+
+pub chunk-right-spec : {M : Type 1} → statement M
+chunk-right-spec =
+    tie.close
+    (tie.spec row-right-requires returns slots-right-requires returns-2 ascends-requires returns-3)

@@ -1,0 +1,61 @@
+// The shape that every call tests first (document 01, "Shape, checked by every call first").
+mod chunks;
+mod rebalance;
+mod stages;
+mod tasks;
+
+use chunks::chain_right;
+use chunks::chunks_right;
+use rebalance::rebalance_fits;
+use rules::Sizes;
+use tasks::tasks_right;
+ghost use mathlib.Core.Path.{_≡_};
+ghost use lib.Dec.{leb};
+ghost use Rattle.rules.specs.Shape.{each, shape};
+ghost use Rattle.rows.specs.Rows.{tables, Lent};
+
+// The tables have the shape.
+pub fn has_shape(
+    z: Sizes,
+    directory: &[u64],
+    tasks: &[u64],
+    chunks: &[u64],
+    entries: &[u64],
+    values: &[u64],
+    marks: &[u64],
+) -> bool
+    requires { ⌜ Lent z (now directory) (now tasks) (now chunks) (now entries) (now values) (now marks) ⌝ }
+    ensures { λ r. ⌜ r ≡ shape z (tables z (now (directory .entry)) (now (tasks .entry)) (now (chunks .entry)) (now (entries .entry)) (now (values .entry)) (now (marks .entry))) ⌝ }
+{
+    let d = rows::directory_row(directory);
+    if !marks_right(marks) {
+        return false;
+    }
+    if z.chunks <= d.first.0 as usize {
+        return false;
+    }
+    if !chunks_right(z, chunks, entries) {
+        return false;
+    }
+    if !chain_right(z, chunks, d) {
+        return false;
+    }
+    if !tasks_right(z, tasks, chunks, entries) {
+        return false;
+    }
+    rebalance_fits(z, chunks, d)
+}
+
+// Each mark is 0 or 1.
+fn marks_right(marks: &[u64]) -> bool
+    ensures { λ r. ⌜ r ≡ each (λ n m. leb m 1) 0 (now (marks .entry)) ⌝ }
+{
+    let mut i = 0;
+    while i < marks.len() {
+        if 1 < marks[i] {
+            return false;
+        }
+        i += 1;
+    }
+    true
+}
