@@ -14,10 +14,10 @@ use Rattle.rules.specs.declared.Chunk.{Chunk}
 use Rattle.rules.specs.declared.Entry.{Entry}
 use Rattle.rules.specs.declared.ChunkNo.{ChunkNo}
 use Rattle.rules.specs.declared.Report.the-variants as report
-use Rattle.rules.specs.Words.{pick, entryNo, noChunk, retired, idle, toDrain, toCopy, toRelease}
+use Rattle.rules.specs.Words.{pick, entryNo, noChunk, retired, idle, toDrain, toCopy, toSwap, toRelease}
 use Rattle.rules.specs.Tables.{Tables, chunkAt, row, emptyChunk, emptyEntry, withDirectory, withChunks, withEntries}
 use Rattle.rules.specs.Walks.{locateFrom}
-use Rattle.rules.specs.Rebalance.{gives, unusedCount, publishedOn, heldChunk, frozenOf, withStatus, begins, drains, swapsIn, releases, clears}
+use Rattle.rules.specs.Rebalance.{gives, unusedCount, publishedOn, heldChunk, frozenOf, withStatus, begins, drains, copies, swapsIn, releases, clears, rebalanceDoes}
 use Rattle.rebalance.specs.Parts.{joined, placed, cleared}
 
 -- ---- the rows that release empties
@@ -79,3 +79,24 @@ module _ (z : Sizes) (s : Tables) (d : Directory) (read : d ≡ s .directory) wh
   pub release-ends : heldChunk (s .tasks) (d .old) ≡ false → (es : List Entry) → es ≡ cleared z (z .entries) (s .entries) (d .old) → (cs : List Chunk) → cs ≡ set (s .chunks) (d .old .0) emptyChunk
       → (d′ : Directory) → d′ ≡ record { first = d .first; stage = idle; old = noChunk; new = noChunk; second = noChunk } → gives (withEntries (withChunks (withDirectory s d′) cs) es) report.Finished ≡ releases z s
   release-ends h es empty cs unused d′ done = rw (rw read at h, clears-rows, done, unused, empty, read)
+
+  -- ---- which stage it is
+  pub does-drain : d .stage ≡ toDrain → drains z s ≡ rebalanceDoes (s .directory .stage) z s
+  unfolding rebalanceDoes
+  does-drain h = rw (rw read at h)
+
+  pub does-copy : d .stage ≡ toCopy → copies z s ≡ rebalanceDoes (s .directory .stage) z s
+  unfolding rebalanceDoes
+  does-copy h = rw (rw read at h)
+
+  pub does-swap : d .stage ≡ toSwap → swapsIn z s ≡ rebalanceDoes (s .directory .stage) z s
+  unfolding rebalanceDoes
+  does-swap h = rw (rw read at h)
+
+  pub does-release : d .stage ≡ toRelease → releases z s ≡ rebalanceDoes (s .directory .stage) z s
+  unfolding rebalanceDoes
+  does-release h = rw (rw read at h)
+
+  pub does-nothing : (d .stage ≡ toDrain → ⊥) → (d .stage ≡ toCopy → ⊥) → (d .stage ≡ toSwap → ⊥) → (d .stage ≡ toRelease → ⊥) → gives s (report.Refused 8) ≡ rebalanceDoes (s .directory .stage) z s
+  unfolding rebalanceDoes
+  does-nothing a b c e = rw (ne-eqb _ _ (rw read at a), ne-eqb _ _ (rw read at b), ne-eqb _ _ (rw read at c), ne-eqb _ _ (rw read at e))

@@ -1,25 +1,21 @@
--- What a part of a stage makes of the table that it writes, and what a stage asks of the tables.
-use Prim.Native.Nat.{ℕ, zero, suc, _*_, _<_, _≤_}
-use mathlib.Core.Path.{_≡_}
+-- What a part of a stage makes of the table that it writes.
+use Prim.Native.Nat.{ℕ, zero, suc}
 use mathlib.Core.List.{List}
 use lib.Dec.{eqb, ltb}
-use lib.ListN.{length, set}
+use lib.ListN.{set}
 use Rattle.rules.specs.declared.Sizes.{Sizes}
 use Rattle.rules.specs.declared.Directory.{Directory}
 use Rattle.rules.specs.declared.Chunk.{Chunk}
 use Rattle.rules.specs.declared.Entry.{Entry}
 use Rattle.rules.specs.declared.ChunkNo.{ChunkNo}
-use Rattle.rules.specs.Words.{pick, entryNo}
+use Rattle.rules.specs.Words.{pick, entryNo, noChunk, noEntry, new}
 use Rattle.rules.specs.Tables.{chunkAt, emptyEntry, row}
 use Rattle.rules.specs.Walks.{beforeFrom}
 use Rattle.rules.specs.Rebalance.{liveBefore, withNextChunk}
 
--- each table that the rebalance may write or read has the words that the sizes ask
-pub record Given (z : Sizes) (d ts cs es : List ℕ) : Type 0 where
-  pub directory : length d ≡ 5
-  pub tasks : length ts ≡ z .tasks * 11
-  pub chunks : length cs ≡ z .chunks * 6
-  pub entries : length es ≡ z .chunks * z .entries * 3
+-- a new chunk of so many entries
+abbrev pub newOf : ℕ → ℕ → Chunk
+newOf min many = record { status = new; frozen = 0; min = min; next = noChunk; head = pick (eqb many 0) noEntry (entryNo 0); used = many }
 
 -- the chunk before the old one goes on to the new one
 abbrev pub joined : Sizes → List Chunk → ChunkNo → ChunkNo → ChunkNo → List Chunk

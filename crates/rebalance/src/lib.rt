@@ -1,4 +1,5 @@
 // The rebalance over the lent tables: begin, then drain, copy, swap in and release, one call each (document 01, "Rebalancing").
+use copying::Place;
 use rules::Chunk;
 use rules::ChunkNo;
 use rules::Directory;
@@ -14,9 +15,11 @@ ghost use lib.Dec.{eqb, ltb};
 ghost use Rattle.rules.specs.Words.{pick};
 ghost use Rattle.rules.specs.Tables.{chunkAt};
 ghost use Rattle.rules.specs.Walks.{beforeFrom};
-ghost use Rattle.rules.specs.Rebalance.{gives, withStatus, frozenOf, liveBefore, withNextChunk, begins, drains, swapsIn, releases};
+ghost use Rattle.rules.specs.Rebalance.{gives, withStatus, frozenOf, liveBefore, withNextChunk, begins, drains, copies, swapsIn, releases, rebalanceDoes};
 ghost use Rattle.rows.specs.Rows.{directoryOf, chunkRows, entryRows, tables};
-ghost use Rattle.rebalance.specs.Parts.{Given, joined, placed, cleared};
+ghost use Rattle.copying.specs.Copied.{Fills, Filled};
+ghost use Rattle.rebalance.specs.Ready.{Given, CanCopy, Ready, Halves, Halved};
+ghost use Rattle.rebalance.specs.Parts.{newOf, joined, placed, cleared};
 
 // ---- a chunk's row, written anew
 
@@ -103,7 +106,7 @@ pub fn begin(z: Sizes, directory: &mut [u64], chunks: &mut [u64], k: u64) -> Rep
     Report::Moved
 }
 
-// ---- the stages
+// ---- drain
 
 // The old chunk has no publisher left.
 pub fn drain(z: Sizes, directory: &mut [u64], tasks: &[u64]) -> Report
@@ -128,6 +131,111 @@ pub fn drain(z: Sizes, directory: &mut [u64], tasks: &[u64]) -> Report
     );
     Report::Moved
 }
+
+// ---- copy
+
+// A new chunk's row, with its minimum key and so many entries.
+pub fn new_chunk(min: u64, many: usize) -> Chunk
+    ensures { λ r. ⌜ r ≡ newOf min many ⌝ }
+{
+    let head = if many == 0 { NONE } else { 0 };
+    Chunk {
+        status: 2,
+        frozen: 0,
+        min: min,
+        next: ChunkNo(NONE),
+        head: EntryNo(head),
+        used: many as u64,
+    }
+}
+
+// A new chunk is made of the next `many` entries that name a handle.
+pub fn make(
+    z: Sizes,
+    chunks: &mut [u64],
+    entries: &mut [u64],
+    old: ChunkNo,
+    from: Place,
+    into: ChunkNo,
+    min: u64,
+    many: usize,
+) -> Place
+    requires { ⌜ Fills z (now entries) old from into many × (length (now chunks) ≡ z .chunks * 6) ⌝ }
+    ensures { λ r. ⌜ Filled z (entryRows (z .chunks * z .entries) (now (entries .entry))) (entryRows (z .chunks * z .entries) (now (entries .exit))) old from r into many × (chunkRows (z .chunks) (now (chunks .exit)) ≡ set (chunkRows (z .chunks) (now (chunks .entry))) (into .0) (newOf min many)) ⌝ }
+{
+    let rest = copying::fill(z, entries, old, from, into, many);
+    rows::put_chunk(z, chunks, into, new_chunk(min, many));
+    rest
+}
+
+// Two new chunks are made of the entries that name a handle, the first of the larger half.
+pub fn make_two(
+    z: Sizes,
+    chunks: &mut [u64],
+    entries: &mut [u64],
+    old: ChunkNo,
+    whole: Place,
+    min: u64,
+    count: usize,
+    a: ChunkNo,
+    b: ChunkNo,
+)
+    requires { ⌜ Halves z (now chunks) (now entries) old whole count a b ⌝ }
+    ensures { λ _. ⌜ Halved z (chunkRows (z .chunks) (now (chunks .entry))) (chunkRows (z .chunks) (now (chunks .exit))) (entryRows (z .chunks * z .entries) (now (entries .entry))) (entryRows (z .chunks * z .entries) (now (entries .exit))) old whole min count a b ⌝ }
+{
+    let half = count - count / 2;
+    let rest = make(z, chunks, entries, old, whole, a, min, half);
+    let key = copying::next_key(z, entries, old, rest);
+    make(z, chunks, entries, old, rest, b, key, count - half);
+}
+
+// The old chunk's entries that name a handle are copied: into one new chunk, or, more than half a chunk of them, into two.
+pub fn copy(z: Sizes, directory: &mut [u64], chunks: &mut [u64], entries: &mut [u64]) -> Report
+    requires { ⌜ (length (now directory) ≡ 5) × (length (now chunks) ≡ z .chunks * 6) × (length (now entries) ≡ z .chunks * z .entries * 3) ⌝ }
+    requires { ⌜ CanCopy z (directoryOf (now directory)) (chunkRows (z .chunks) (now chunks)) ⌝ }
+    ensures { λ r. ⌜ ((ts vs ms : List ℕ) → gives (tables z (now (directory .exit)) ts (now (chunks .exit)) (now (entries .exit)) vs ms) r ≡ copies z (tables z (now (directory .entry)) ts (now (chunks .entry)) (now (entries .entry)) vs ms)) ⌝ }
+{
+    let d = rows::directory_row(directory);
+    let first = d.first;
+    let old = d.old;
+    let x = rows::chunk_at(z, chunks, old);
+    let head = x.head;
+    let count = copying::naming_count(z, entries, old, head);
+    let whole = Place {
+        entry: head,
+        left: z.entries,
+    };
+    let a = walks::unused_from(z.chunks, chunks, 0);
+    if count <= z.entries / 2 {
+        make(z, chunks, entries, old, whole, a, x.min, count);
+        rows::put_directory_row(
+            directory,
+            Directory {
+                first: first,
+                stage: 3,
+                old: old,
+                new: a,
+                second: ChunkNo(NONE),
+            },
+        );
+        return Report::Moved;
+    }
+    let b = walks::unused_from(z.chunks, chunks, a.0 as usize + 1);
+    make_two(z, chunks, entries, old, whole, x.min, count, a, b);
+    rows::put_directory_row(
+        directory,
+        Directory {
+            first: first,
+            stage: 3,
+            old: old,
+            new: a,
+            second: b,
+        },
+    );
+    Report::Moved
+}
+
+// ---- swap in
 
 // The chunk before the old one, if there is one, goes on to the new one.
 pub fn join(z: Sizes, chunks: &mut [u64], first: ChunkNo, old: ChunkNo, new: ChunkNo)
@@ -197,6 +305,8 @@ pub fn swap_in(z: Sizes, directory: &mut [u64], chunks: &mut [u64]) -> Report
     Report::Moved
 }
 
+// ---- release
+
 // A chunk's rows are emptied.
 pub fn clear(z: Sizes, entries: &mut [u64], c: ChunkNo)
     requires { ⌜ (c .0 < z .chunks) × (length (now entries) ≡ z .chunks * z .entries * 3) ⌝ }
@@ -240,4 +350,28 @@ pub fn release(
         },
     );
     Report::Finished
+}
+
+// ---- the stages, by their number
+
+// The rebalance's next stage is done; while it is idle there is none.
+pub fn rebalance(
+    z: Sizes,
+    directory: &mut [u64],
+    tasks: &[u64],
+    chunks: &mut [u64],
+    entries: &mut [u64],
+) -> Report
+    requires { ⌜ Given z (now directory) (now tasks) (now chunks) (now entries) ⌝ }
+    requires { ⌜ Ready z (directoryOf (now directory)) (chunkRows (z .chunks) (now chunks)) ⌝ }
+    ensures { λ r. ⌜ ((vs ms : List ℕ) → gives (tables z (now (directory .exit)) (now (tasks .entry)) (now (chunks .exit)) (now (entries .exit)) vs ms) r ≡ rebalanceDoes (directoryOf (now (directory .entry)) .stage) z (tables z (now (directory .entry)) (now (tasks .entry)) (now (chunks .entry)) (now (entries .entry)) vs ms)) ⌝ }
+{
+    let stage = rows::directory_row(directory).stage;
+    match stage {
+        1 => drain(z, directory, tasks),
+        2 => copy(z, directory, chunks, entries),
+        3 => swap_in(z, directory, chunks),
+        4 => release(z, directory, tasks, chunks, entries),
+        _ => Report::Refused(8),
+    }
 }

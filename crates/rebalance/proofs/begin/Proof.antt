@@ -13,7 +13,7 @@ same-length : tie.Need-same-length
 same-length c = search needs
 
 returns : tie.Need-returns
-returns c = λ ts es vs ms. begin-busy (c .before .before .before .before .before .before .args .z) (tables (c .before .before .before .before .before .before .args .z) (c .before .before .before .before .before .before .args .directory .now) ts (c .before .before .before .before .before .before .args .chunks .now) es vs ms) _ (c .before .before .directory-row .ensures) _ (c .if1 .taken)
+returns c = let the-args = c .before .before .before .before .before .before .args in λ ts es vs ms. begin-busy (the-args .z) (tables (the-args .z) (the-args .directory .now) ts (the-args .chunks .now) es vs ms) _ (c .before .before .directory-row .ensures) _ (c .if1 .taken)
 
 unused-count-requires : tie.Need-unused-count-requires
 unused-count-requires c κs = search needs
@@ -25,7 +25,7 @@ same-length-3 : tie.Need-same-length-3
 same-length-3 c = search needs
 
 returns-2 : tie.Need-returns-2
-returns-2 c = λ ts es vs ms. begin-few (c .before .before .before .before .before .before .before .before .before .args .z) (tables (c .before .before .before .before .before .before .before .before .before .args .z) (c .before .before .before .before .before .before .before .before .before .args .directory .now) ts (c .before .before .before .before .before .before .before .before .before .args .chunks .now) es vs ms) _ (c .before .before .before .before .before .directory-row .ensures) _ _ (c .before .before .before .if1 .left) (c .before .unused-count .ensures .0) (c .if2 .taken)
+returns-2 c = let the-args = c .before .before .before .before .before .before .before .before .before .args in λ ts es vs ms. begin-few (the-args .z) (tables (the-args .z) (the-args .directory .now) ts (the-args .chunks .now) es vs ms) _ (c .before .before .before .before .before .directory-row .ensures) _ _ (c .before .before .before .if1 .left) (c .before .unused-count .ensures .0) (c .if2 .taken)
 
 locate-requires : tie.Need-locate-requires
 locate-requires c κs = search needs
@@ -49,7 +49,7 @@ same-length-5 : tie.Need-same-length-5
 same-length-5 c = search needs
 
 returns-3 : tie.Need-returns-3
-returns-3 c = λ ts es vs ms. begin-froze (c .before .before .before .before .before .before .before .before .before .before .before .before .before .before .before .before .before .before .before .before .before .before .before .args .z) (tables (c .before .before .before .before .before .before .before .before .before .before .before .before .before .before .before .before .before .before .before .before .before .before .before .args .z) (c .before .before .before .before .before .before .before .before .before .before .before .before .before .before .before .before .before .before .before .before .before .before .before .args .directory .now) ts (c .before .before .before .before .before .before .before .before .before .before .before .before .before .before .before .before .before .before .before .before .before .before .before .args .chunks .now) es vs ms) _ (c .before .before .before .before .before .before .before .before .before .before .before .before .before .before .before .before .before .before .before .directory-row .ensures) _ _ (c .before .before .before .before .before .before .before .before .before .before .before .before .before .before .before .before .before .if1 .left) (c .before .before .before .before .before .before .before .before .before .before .before .before .before .before .before .unused-count .ensures .0) (c .before .before .before .before .before .before .before .before .before .before .before .before .before .before .if2 .left) _ (c .before .before .before .before .before .before .before .before .before .before .before .locate .ensures) _ (c .before .before .before .before .before .before .before .before .before .chunk-at .ensures) _ (c .before .before .put-directory-row .ensures) _ (rw (← c .before .before .before .before .before .before .before .frozen .ensures) (c .before .before .before .before .before .before .put-chunk .ensures))
+returns-3 c = let the-args = c .before .before .before .before .before .before .before .before .before .before .before .before .before .before .before .before .before .before .before .before .before .before .before .args in λ ts es vs ms. begin-froze (the-args .z) (tables (the-args .z) (the-args .directory .now) ts (the-args .chunks .now) es vs ms) _ (c .before .before .before .before .before .before .before .before .before .before .before .before .before .before .before .before .before .before .before .directory-row .ensures) _ _ (c .before .before .before .before .before .before .before .before .before .before .before .before .before .before .before .before .before .if1 .left) (c .before .before .before .before .before .before .before .before .before .before .before .before .before .before .before .unused-count .ensures .0) (c .before .before .before .before .before .before .before .before .before .before .before .before .before .before .if2 .left) _ (c .before .before .before .before .before .before .before .before .before .before .before .locate .ensures) _ (c .before .before .before .before .before .before .before .before .before .chunk-at .ensures) _ (c .before .before .put-directory-row .ensures) _ (rw (← c .before .before .before .before .before .before .before .frozen .ensures) (c .before .before .before .before .before .before .put-chunk .ensures))
 
 pub begin-spec : {M : Type 1} → statement M
 begin-spec =

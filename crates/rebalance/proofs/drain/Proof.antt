@@ -16,7 +16,7 @@ same-length : tie.Need-same-length
 same-length c = search needs
 
 returns : tie.Need-returns
-returns c = λ cs es vs ms. drain-waits (c .before .before .before .before .before .before .before .before .args .z) (tables (c .before .before .before .before .before .before .before .before .args .z) (c .before .before .before .before .before .before .before .before .args .directory .now) (c .before .before .before .before .before .before .before .before .args .tasks .now) cs es vs ms) _ (c .before .before .before .before .directory-row .ensures) (sym (c .before .published-on .ensures) ∙ c .if1 .taken)
+returns c = let the-args = c .before .before .before .before .before .before .before .before .args in λ cs es vs ms. drain-waits (the-args .z) (tables (the-args .z) (the-args .directory .now) (the-args .tasks .now) cs es vs ms) _ (c .before .before .before .before .directory-row .ensures) (sym (c .before .published-on .ensures) ∙ c .if1 .taken)
 
 put-directory-row-requires : tie.Need-put-directory-row-requires
 put-directory-row-requires c κs = search needs
@@ -25,7 +25,7 @@ same-length-2 : tie.Need-same-length-2
 same-length-2 c = search needs
 
 returns-2 : tie.Need-returns-2
-returns-2 c = λ cs es vs ms. drain-goes (c .before .before .before .before .before .before .before .before .before .before .before .before .args .z) (tables (c .before .before .before .before .before .before .before .before .before .before .before .before .args .z) (c .before .before .before .before .before .before .before .before .before .before .before .before .args .directory .now) (c .before .before .before .before .before .before .before .before .before .before .before .before .args .tasks .now) cs es vs ms) _ (c .before .before .before .before .before .before .before .before .directory-row .ensures) (sym (c .before .before .before .before .before .published-on .ensures) ∙ c .before .before .before .before .if1 .left) _ (c .before .before .put-directory-row .ensures)
+returns-2 c = let the-args = c .before .before .before .before .before .before .before .before .before .before .before .before .args in λ cs es vs ms. drain-goes (the-args .z) (tables (the-args .z) (the-args .directory .now) (the-args .tasks .now) cs es vs ms) _ (c .before .before .before .before .before .before .before .before .directory-row .ensures) (sym (c .before .before .before .before .before .published-on .ensures) ∙ c .before .before .before .before .if1 .left) _ (c .before .before .put-directory-row .ensures)
 
 pub drain-spec : {M : Type 1} → statement M
 drain-spec =

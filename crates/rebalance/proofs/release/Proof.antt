@@ -17,10 +17,10 @@ same-length : tie.Need-same-length
 same-length c = search needs
 
 returns : tie.Need-returns
-returns c = λ vs ms. release-waits (c .before .before .before .before .before .before .before .before .before .before .args .z) (tables (c .before .before .before .before .before .before .before .before .before .before .args .z) (c .before .before .before .before .before .before .before .before .before .before .args .directory .now) (c .before .before .before .before .before .before .before .before .before .before .args .tasks .now) (c .before .before .before .before .before .before .before .before .before .before .args .chunks .now) (c .before .before .before .before .before .before .before .before .before .before .args .entries .now) vs ms) _ (c .before .before .before .before .directory-row .ensures) (sym (c .before .held-chunk .ensures) ∙ c .if1 .taken)
+returns c = let the-args = c .before .before .before .before .before .before .before .before .before .before .args in λ vs ms. release-waits (the-args .z) (tables (the-args .z) (the-args .directory .now) (the-args .tasks .now) (the-args .chunks .now) (the-args .entries .now) vs ms) _ (c .before .before .before .before .directory-row .ensures) (sym (c .before .held-chunk .ensures) ∙ c .if1 .taken)
 
 clear-requires : tie.Need-clear-requires
-clear-requires c κs = (rw (c .before .before .before .before .before .directory-row .ensures) (c .before .before .before .before .before .before .before .before .before .before .before .pre .1), omega (arith, c .before .before .before .before .before .before .before .before .before .before .before .pre))
+clear-requires c κs = let the-pre = c .before .before .before .before .before .before .before .before .before .before .before .pre in (rw (c .before .before .before .before .before .directory-row .ensures) (the-pre .1), omega (arith, the-pre))
 
 empty-chunk-requires : tie.Need-empty-chunk-requires
 empty-chunk-requires c κs = search needs
@@ -41,7 +41,7 @@ same-length-4 : tie.Need-same-length-4
 same-length-4 c = search needs
 
 returns-2 : tie.Need-returns-2
-returns-2 c = λ vs ms. release-ends (c .before .before .before .before .before .before .before .before .before .before .before .before .before .before .before .before .before .before .before .before .before .before .before .args .z) (tables (c .before .before .before .before .before .before .before .before .before .before .before .before .before .before .before .before .before .before .before .before .before .before .before .args .z) (c .before .before .before .before .before .before .before .before .before .before .before .before .before .before .before .before .before .before .before .before .before .before .before .args .directory .now) (c .before .before .before .before .before .before .before .before .before .before .before .before .before .before .before .before .before .before .before .before .before .before .before .args .tasks .now) (c .before .before .before .before .before .before .before .before .before .before .before .before .before .before .before .before .before .before .before .before .before .before .before .args .chunks .now) (c .before .before .before .before .before .before .before .before .before .before .before .before .before .before .before .before .before .before .before .before .before .before .before .args .entries .now) vs ms) _ (c .before .before .before .before .before .before .before .before .before .before .before .before .before .before .before .before .before .directory-row .ensures) (sym (c .before .before .before .before .before .before .before .before .before .before .before .before .before .before .held-chunk .ensures) ∙ c .before .before .before .before .before .before .before .before .before .before .before .before .before .if1 .left) _ (c .before .before .before .before .before .before .before .before .before .before .before .clear .ensures) _ (rw (← c .before .before .before .before .before .before .before .empty-chunk .ensures) (c .before .before .before .before .before .before .put-chunk .ensures)) _ (c .before .before .put-directory-row .ensures)
+returns-2 c = let the-args = c .before .before .before .before .before .before .before .before .before .before .before .before .before .before .before .before .before .before .before .before .before .before .before .args in λ vs ms. release-ends (the-args .z) (tables (the-args .z) (the-args .directory .now) (the-args .tasks .now) (the-args .chunks .now) (the-args .entries .now) vs ms) _ (c .before .before .before .before .before .before .before .before .before .before .before .before .before .before .before .before .before .directory-row .ensures) (sym (c .before .before .before .before .before .before .before .before .before .before .before .before .before .before .held-chunk .ensures) ∙ c .before .before .before .before .before .before .before .before .before .before .before .before .before .if1 .left) _ (c .before .before .before .before .before .before .before .before .before .before .before .clear .ensures) _ (rw (← c .before .before .before .before .before .before .before .empty-chunk .ensures) (c .before .before .before .before .before .before .put-chunk .ensures)) _ (c .before .before .put-directory-row .ensures)
 
 pub release-spec : {M : Type 1} → statement M
 release-spec =
