@@ -10,7 +10,7 @@ use native.Mathlib.Omega.{arith}
 use native.Mathlib.Decide.{decLt}
 use borrow.Author.Tests.{lt-ltb, le-ltb, ltb-true}
 use lib.Dec.{ltb}
-use lib.ListN.{length, getD, set, take, drop}
+use lib.ListN.{length, set, take, drop}
 use lib.Seq.{getD-set-other, length-take-le}
 use Rattle.rules.specs.declared.Sizes.{Sizes}
 use Rattle.rules.specs.declared.Entry.{Entry}

@@ -2,11 +2,10 @@
 use rules::ChunkNo;
 use rules::Entry;
 use rules::EntryNo;
-use rules::HandleNo;
 use rules::NONE;
 use rules::Sizes;
 ghost use mathlib.Core.Path.{_≡_};
-ghost use Prim.Native.Nat.{ℕ, _+_, _*_, _-_, _<_, _≤_};
+ghost use Prim.Native.Nat.{_+_, _*_, _-_, _<_, _≤_};
 ghost use lib.ListN.{length, getD};
 ghost use Rattle.rules.specs.Tables.{emptyEntry};
 ghost use Rattle.rules.specs.Rebalance.{namingFrom};
@@ -94,7 +93,7 @@ pub fn next_key(z: Sizes, entries: &[u64], c: ChunkNo, from: Place) -> u64
 }
 
 // An entry as row `n` of the `many` that a new chunk gets.
-pub fn copied(x: Entry, n: usize, many: usize) -> Entry
+fn copied(x: Entry, n: usize, many: usize) -> Entry
     requires { ⌜ n < many ⌝ }
     ensures { λ r. ⌜ r ≡ copyOf x n (many - (n + 1)) ⌝ }
 {

@@ -1,21 +1,20 @@
 -- Tables that have the shape are ready for the rebalance's stage.
-use Prim.Native.Nat.{ℕ, _≤_, _<_}
-use mathlib.Core.Path.{_≡_, refl, sym, ap, _∙_}
+use Prim.Native.Nat.{_<_}
+use mathlib.Core.Path.{_≡_, refl}
 use mathlib.Core.Bool.{Bool, true, false, not}
 use native.Mathlib.Omega.{arith}
 use native.Mathlib.Nat.{zero-add}
 use lib.Dec.{eqb, ltb, leb}
-use lib.ListN.{length, getD}
+use lib.ListN.{length}
 use borrow.Author.Tests.{ltb-true, leb-true, eqb-true, eq-eqb}
 use Rattle.rules.specs.declared.Sizes.{Sizes}
-use Rattle.rules.specs.declared.Directory.{Directory}
-use Rattle.rules.specs.Words.{pick, _and_, live, unused, idle, toDrain, toCopy, toSwap, toRelease}
+use Rattle.rules.specs.Words.{_and_, live, idle, toDrain, toCopy, toSwap, toRelease}
 use Rattle.rules.specs.Tables.{Tables, chunkAt, emptyChunk}
 use Rattle.rules.specs.Shape.{shape, each, isNone, numbers, chunkFits}
 use Rattle.rules.specs.Rebalance.{unusedCount}
 use Rattle.rules.proofs.Tests.{and-left, and-right}
 use Rattle.rules.proofs.Each.{each-at}
-use Rattle.rules.proofs.Shaped.{Shaped, shape-parts}
+use Rattle.rules.proofs.Shaped.{shape-parts}
 use Rattle.rebalance.specs.Ready.{CanCopy, Ready}
 
 module _ (z : Sizes) (s : Tables) (h : shape z s ≡ true) where

@@ -1,11 +1,9 @@
 -- The chunks that copy takes: within the table, unused, and so not the old one.
-use Prim.Native.Nat.{ℕ, zero, suc, _+_, _-_, _≤_, _<_}
-use mathlib.Core.Path.{_≡_, refl, sym, ap, _∙_}
+use Prim.Native.Nat.{ℕ, suc, _+_, _-_, _<_}
+use mathlib.Core.Path.{_≡_, refl, ap, _∙_}
 use mathlib.Core.Bool.{Bool, true, false}
 use mathlib.Core.List.{List, [], _∷_}
-use mathlib.Core.Logic.{_≢_}
-use native.Mathlib.Nat.{lt-irrefl, zero-add}
-use native.Mathlib.Numerals.{add-one}
+use native.Mathlib.Nat.{lt-irrefl}
 use native.Mathlib.Omega.{arith}
 use borrow.Author.Tests.{eqb-true}
 use lib.Dec.{eqb}
@@ -15,8 +13,8 @@ use Rattle.rules.specs.declared.Sizes.{Sizes}
 use Rattle.rules.specs.declared.Directory.{Directory}
 use Rattle.rules.specs.declared.Chunk.{Chunk}
 use Rattle.rules.specs.declared.ChunkNo.{ChunkNo}
-use Rattle.rules.specs.Words.{chunkNo, unused}
-use Rattle.rules.specs.Tables.{chunkAt, emptyChunk}
+use Rattle.rules.specs.Words.{unused}
+use Rattle.rules.specs.Tables.{emptyChunk}
 use Rattle.rules.specs.Rebalance.{unusedCount, unusedFrom}
 use Rattle.rebalance.specs.Ready.{CanCopy, Apart}
 

@@ -9,12 +9,10 @@ use rules::Report;
 use rules::Sizes;
 ghost use mathlib.Core.Path.{_≡_};
 ghost use mathlib.Core.List.{List};
-ghost use Prim.Native.Nat.{ℕ, _+_, _*_, _<_, _≤_};
+ghost use Prim.Native.Nat.{ℕ, _+_, _*_, _<_};
 ghost use lib.ListN.{length, set};
-ghost use lib.Dec.{eqb, ltb};
+ghost use lib.Dec.{eqb};
 ghost use Rattle.rules.specs.Words.{pick};
-ghost use Rattle.rules.specs.Tables.{chunkAt};
-ghost use Rattle.rules.specs.Walks.{beforeFrom};
 ghost use Rattle.rules.specs.Rebalance.{gives, withStatus, frozenOf, liveBefore, withNextChunk, begins, drains, copies, swapsIn, releases, rebalanceDoes};
 ghost use Rattle.rows.specs.Rows.{directoryOf, chunkRows, entryRows, tables};
 ghost use Rattle.copying.specs.Copied.{Fills, Filled};
@@ -23,7 +21,7 @@ ghost use Rattle.rebalance.specs.Parts.{newOf, joined, placed, cleared};
 
 // ---- a chunk's row, written anew
 
-pub fn frozen(x: Chunk) -> Chunk
+fn frozen(x: Chunk) -> Chunk
     ensures { λ r. ⌜ r ≡ frozenOf x ⌝ }
 {
     Chunk {
@@ -36,7 +34,7 @@ pub fn frozen(x: Chunk) -> Chunk
     }
 }
 
-pub fn retired(x: Chunk) -> Chunk
+fn retired(x: Chunk) -> Chunk
     ensures { λ r. ⌜ r ≡ withStatus x 3 ⌝ }
 {
     Chunk {
@@ -49,7 +47,7 @@ pub fn retired(x: Chunk) -> Chunk
     }
 }
 
-pub fn live_before(x: Chunk, c: ChunkNo) -> Chunk
+fn live_before(x: Chunk, c: ChunkNo) -> Chunk
     ensures { λ r. ⌜ r ≡ liveBefore x c ⌝ }
 {
     Chunk {
@@ -62,7 +60,7 @@ pub fn live_before(x: Chunk, c: ChunkNo) -> Chunk
     }
 }
 
-pub fn with_next(x: Chunk, c: ChunkNo) -> Chunk
+fn with_next(x: Chunk, c: ChunkNo) -> Chunk
     ensures { λ r. ⌜ r ≡ withNextChunk x c ⌝ }
 {
     Chunk {
@@ -135,7 +133,7 @@ pub fn drain(z: Sizes, directory: &mut [u64], tasks: &[u64]) -> Report
 // ---- copy
 
 // A new chunk's row, with its minimum key and so many entries.
-pub fn new_chunk(min: u64, many: usize) -> Chunk
+fn new_chunk(min: u64, many: usize) -> Chunk
     ensures { λ r. ⌜ r ≡ newOf min many ⌝ }
 {
     let head = if many == 0 { NONE } else { 0 };
@@ -150,7 +148,7 @@ pub fn new_chunk(min: u64, many: usize) -> Chunk
 }
 
 // A new chunk is made of the next `many` entries that name a handle.
-pub fn make(
+fn make(
     z: Sizes,
     chunks: &mut [u64],
     entries: &mut [u64],
@@ -169,7 +167,7 @@ pub fn make(
 }
 
 // Two new chunks are made of the entries that name a handle, the first of the larger half.
-pub fn make_two(
+fn make_two(
     z: Sizes,
     chunks: &mut [u64],
     entries: &mut [u64],
@@ -238,7 +236,7 @@ pub fn copy(z: Sizes, directory: &mut [u64], chunks: &mut [u64], entries: &mut [
 // ---- swap in
 
 // The chunk before the old one, if there is one, goes on to the new one.
-pub fn join(z: Sizes, chunks: &mut [u64], first: ChunkNo, old: ChunkNo, new: ChunkNo)
+fn join(z: Sizes, chunks: &mut [u64], first: ChunkNo, old: ChunkNo, new: ChunkNo)
     requires { ⌜ length (now chunks) ≡ z .chunks * 6 ⌝ }
     ensures { λ _. ⌜ chunkRows (z .chunks) (now (chunks .exit)) ≡ joined z (chunkRows (z .chunks) (now (chunks .entry))) first old new ⌝ }
 {
@@ -251,7 +249,7 @@ pub fn join(z: Sizes, chunks: &mut [u64], first: ChunkNo, old: ChunkNo, new: Chu
 }
 
 // The new chunks are live, the last of them before the given one.
-pub fn place_new(z: Sizes, chunks: &mut [u64], d: Directory, a: Chunk, b: Chunk, after: ChunkNo)
+fn place_new(z: Sizes, chunks: &mut [u64], d: Directory, a: Chunk, b: Chunk, after: ChunkNo)
     requires { ⌜ length (now chunks) ≡ z .chunks * 6 ⌝ }
     ensures { λ _. ⌜ chunkRows (z .chunks) (now (chunks .exit)) ≡ placed z (chunkRows (z .chunks) (now (chunks .entry))) d a b after ⌝ }
 {
@@ -266,7 +264,7 @@ pub fn place_new(z: Sizes, chunks: &mut [u64], d: Directory, a: Chunk, b: Chunk,
 }
 
 // The first live chunk, where the new one takes the old one's place.
-pub fn chosen(first: ChunkNo, old: ChunkNo, new: ChunkNo) -> ChunkNo
+fn first_live(first: ChunkNo, old: ChunkNo, new: ChunkNo) -> ChunkNo
     ensures { λ r. ⌜ r ≡ pick (eqb (first .0) (old .0)) new first ⌝ }
 {
     if first.0 == old.0 {
@@ -295,7 +293,7 @@ pub fn swap_in(z: Sizes, directory: &mut [u64], chunks: &mut [u64]) -> Report
     rows::put_directory_row(
         directory,
         Directory {
-            first: chosen(first, old, new),
+            first: first_live(first, old, new),
             stage: 4,
             old: old,
             new: new,
@@ -308,7 +306,7 @@ pub fn swap_in(z: Sizes, directory: &mut [u64], chunks: &mut [u64]) -> Report
 // ---- release
 
 // A chunk's rows are emptied.
-pub fn clear(z: Sizes, entries: &mut [u64], c: ChunkNo)
+fn clear(z: Sizes, entries: &mut [u64], c: ChunkNo)
     requires { ⌜ (c .0 < z .chunks) × (length (now entries) ≡ z .chunks * z .entries * 3) ⌝ }
     ensures { λ _. ⌜ entryRows (z .chunks * z .entries) (now (entries .exit)) ≡ cleared z (z .entries) (entryRows (z .chunks * z .entries) (now (entries .entry))) c ⌝ }
 {
