@@ -1,0 +1,4 @@
+pub mod Laws
+pub mod Unused
+pub mod Copies
+pub mod Readied
