@@ -12,10 +12,10 @@ use Rattle.rules.specs.declared.Report.the-variants as report
 use Rattle.rules.specs.Words.{_and_}
 use Rattle.rules.specs.Told.{told}
 use Rattle.rules.specs.Shape.{shape}
-use Rattle.rules.specs.Calls.{Call, does, calls}
+use Rattle.rules.specs.Calls.{Call, fresh, does, calls}
 use Rattle.rules.proofs.Tests.{and-left, and-right, both}
 use Rattle.rows.specs.Rows.{Lent}
-use Rattle.calls.specs.Promise.{Words, tablesOf, lent, Promise}
+use Rattle.calls.specs.Promise.{Words, tablesOf, lent, Promise, Makes}
 
 leading : (a b : ℕ) (rest : Bool) → (eqb a b and rest) ≡ true → a ≡ b
 leading a b rest t = eqb-true a b (and-left (eqb a b) rest t)
@@ -57,3 +57,23 @@ module _ (z : Sizes) (c : Call) (before : Words) where
       let l = and-left (lent z before) (shape z (tablesOf z before)) t in
       let s = and-right (lent z before) (shape z (tablesOf z before)) t in
       record { refuses = λ h. absurd (true≢false (sym l ∙ h)); reports = λ h. rw s (ap told reports); leaves = λ h. rw s leaves; lends = λ h. lends }
+
+-- ---- the fresh directory
+module _ (z : Sizes) (before : Words) where
+  pub makes-refused : lent z before ≡ false → Makes z before before (report.Refused 10)
+  makes-refused e = record { refuses = λ h. (refl, refl); reports = λ h. absurd (true≢false (sym h ∙ e)); leaves = λ h. absurd (true≢false (sym h ∙ e)); lends = λ h. h }
+
+  pub makes-done : (after : Words) → lent z before ≡ true → tablesOf z after ≡ fresh z → lent z after ≡ true → Makes z before after report.Done
+  makes-done after e leaves lends = record { refuses = λ h. absurd (true≢false (sym e ∙ h)); reports = λ h. refl; leaves = λ h. leaves; lends = λ h. lends }
+
+-- ---- slices that are as long as they were
+pub record Long (a b : Words) : Type 0 where
+  pub directory : length (b .directory) ≡ length (a .directory)
+  pub tasks : length (b .tasks) ≡ length (a .tasks)
+  pub chunks : length (b .chunks) ≡ length (a .chunks)
+  pub entries : length (b .entries) ≡ length (a .entries)
+  pub values : length (b .values) ≡ length (a .values)
+  pub marks : length (b .marks) ≡ length (a .marks)
+
+pub still-lent : (z : Sizes) (a b : Words) → lent z a ≡ true → Long a b → lent z b ≡ true
+still-lent z a b e l = rw (l .directory, l .tasks, l .chunks, l .entries, l .values, l .marks) e
