@@ -21,6 +21,7 @@ ghost use Rattle.rebalance.specs.Parts.{newOf, joined, placed, cleared};
 
 // ---- a chunk's row, written anew
 
+// As it was, and frozen.
 fn frozen(x: Chunk) -> Chunk
     ensures { λ r. ⌜ r ≡ frozenOf x ⌝ }
 {
@@ -34,6 +35,7 @@ fn frozen(x: Chunk) -> Chunk
     }
 }
 
+// As it was, and retired.
 fn retired(x: Chunk) -> Chunk
     ensures { λ r. ⌜ r ≡ withStatus x 3 ⌝ }
 {
@@ -47,6 +49,7 @@ fn retired(x: Chunk) -> Chunk
     }
 }
 
+// As it was, and live, with its next chunk.
 fn live_before(x: Chunk, c: ChunkNo) -> Chunk
     ensures { λ r. ⌜ r ≡ liveBefore x c ⌝ }
 {
@@ -60,6 +63,7 @@ fn live_before(x: Chunk, c: ChunkNo) -> Chunk
     }
 }
 
+// As it was, with its next chunk.
 fn with_next(x: Chunk, c: ChunkNo) -> Chunk
     ensures { λ r. ⌜ r ≡ withNextChunk x c ⌝ }
 {
@@ -71,6 +75,32 @@ fn with_next(x: Chunk, c: ChunkNo) -> Chunk
         head: EntryNo(x.head.0),
         used: x.used,
     }
+}
+
+// ---- the directory's row, written anew
+
+// The rebalance is at that stage, of an old chunk and its new ones.
+fn put_stage(
+    directory: &mut [u64],
+    first: ChunkNo,
+    stage: u64,
+    old: ChunkNo,
+    new: ChunkNo,
+    second: ChunkNo,
+)
+    requires { ⌜ length (now directory) ≡ 5 ⌝ }
+    ensures { λ _. ⌜ directoryOf (now (directory .exit)) ≡ record { first = first; stage = stage; old = old; new = new; second = second } ⌝ }
+{
+    rows::put_directory_row(
+        directory,
+        Directory {
+            first: first,
+            stage: stage,
+            old: old,
+            new: new,
+            second: second,
+        },
+    );
 }
 
 // ---- begin
@@ -91,16 +121,7 @@ pub fn begin(z: Sizes, directory: &mut [u64], chunks: &mut [u64], k: u64) -> Rep
     let c = walks::locate(z, chunks, first, k);
     let x = rows::chunk_at(z, chunks, c);
     rows::put_chunk(z, chunks, c, frozen(x));
-    rows::put_directory_row(
-        directory,
-        Directory {
-            first: first,
-            stage: 1,
-            old: c,
-            new: ChunkNo(NONE),
-            second: ChunkNo(NONE),
-        },
-    );
+    put_stage(directory, first, 1, c, ChunkNo(NONE), ChunkNo(NONE));
     Report::Moved
 }
 
@@ -117,16 +138,7 @@ pub fn drain(z: Sizes, directory: &mut [u64], tasks: &[u64]) -> Report
     if walks::published_on(z.tasks, tasks, old) {
         return Report::Waiting;
     }
-    rows::put_directory_row(
-        directory,
-        Directory {
-            first: first,
-            stage: 2,
-            old: old,
-            new: ChunkNo(NONE),
-            second: ChunkNo(NONE),
-        },
-    );
+    put_stage(directory, first, 2, old, ChunkNo(NONE), ChunkNo(NONE));
     Report::Moved
 }
 
@@ -206,30 +218,12 @@ pub fn copy(z: Sizes, directory: &mut [u64], chunks: &mut [u64], entries: &mut [
     let a = walks::unused_from(z.chunks, chunks, 0);
     if count <= z.entries / 2 {
         make(z, chunks, entries, old, whole, a, x.min, count);
-        rows::put_directory_row(
-            directory,
-            Directory {
-                first: first,
-                stage: 3,
-                old: old,
-                new: a,
-                second: ChunkNo(NONE),
-            },
-        );
+        put_stage(directory, first, 3, old, a, ChunkNo(NONE));
         return Report::Moved;
     }
     let b = walks::unused_from(z.chunks, chunks, a.0 as usize + 1);
     make_two(z, chunks, entries, old, whole, x.min, count, a, b);
-    rows::put_directory_row(
-        directory,
-        Directory {
-            first: first,
-            stage: 3,
-            old: old,
-            new: a,
-            second: b,
-        },
-    );
+    put_stage(directory, first, 3, old, a, b);
     Report::Moved
 }
 
@@ -290,16 +284,7 @@ pub fn swap_in(z: Sizes, directory: &mut [u64], chunks: &mut [u64]) -> Report
     join(z, chunks, first, old, new);
     place_new(z, chunks, d, a, b, after);
     rows::put_chunk(z, chunks, old, retired(x));
-    rows::put_directory_row(
-        directory,
-        Directory {
-            first: first_live(first, old, new),
-            stage: 4,
-            old: old,
-            new: new,
-            second: second,
-        },
-    );
+    put_stage(directory, first_live(first, old, new), 4, old, new, second);
     Report::Moved
 }
 
@@ -337,15 +322,13 @@ pub fn release(
     }
     clear(z, entries, old);
     rows::put_chunk(z, chunks, old, rows::empty_chunk());
-    rows::put_directory_row(
+    put_stage(
         directory,
-        Directory {
-            first: first,
-            stage: 0,
-            old: ChunkNo(NONE),
-            new: ChunkNo(NONE),
-            second: ChunkNo(NONE),
-        },
+        first,
+        0,
+        ChunkNo(NONE),
+        ChunkNo(NONE),
+        ChunkNo(NONE),
     );
     Report::Finished
 }

@@ -18,14 +18,14 @@ same-length c = search needs
 returns : tie.Need-returns
 returns c = let the-args = c .before .before .before .before .before .before .before .before .args in λ cs es vs ms. drain-waits (the-args .z) (tables (the-args .z) (the-args .directory .now) (the-args .tasks .now) cs es vs ms) _ (c .before .before .before .before .directory-row .ensures) (sym (c .before .published-on .ensures) ∙ c .if1 .taken)
 
-put-directory-row-requires : tie.Need-put-directory-row-requires
-put-directory-row-requires c κs = search needs
+put-stage-requires : tie.Need-put-stage-requires
+put-stage-requires c κs = search needs
 
 same-length-2 : tie.Need-same-length-2
 same-length-2 c = search needs
 
 returns-2 : tie.Need-returns-2
-returns-2 c = let the-args = c .before .before .before .before .before .before .before .before .before .before .before .before .args in λ cs es vs ms. drain-goes (the-args .z) (tables (the-args .z) (the-args .directory .now) (the-args .tasks .now) cs es vs ms) _ (c .before .before .before .before .before .before .before .before .directory-row .ensures) (sym (c .before .before .before .before .before .published-on .ensures) ∙ c .before .before .before .before .if1 .left) _ (c .before .before .put-directory-row .ensures)
+returns-2 c = let the-args = c .before .before .before .before .before .before .before .before .before .before .before .before .args in λ cs es vs ms. drain-goes (the-args .z) (tables (the-args .z) (the-args .directory .now) (the-args .tasks .now) cs es vs ms) _ (c .before .before .before .before .before .before .before .before .directory-row .ensures) (sym (c .before .before .before .before .before .published-on .ensures) ∙ c .before .before .before .before .if1 .left) _ (c .before .before .put-stage .ensures)
 
 pub drain-spec : {M : Type 1} → statement M
 drain-spec =
@@ -35,6 +35,6 @@ drain-spec =
     published-on-requires
     same-length
     returns
-    put-directory-row-requires
+    put-stage-requires
     same-length-2
     returns-2)

@@ -28,8 +28,8 @@ empty-chunk-requires c κs = search needs
 put-chunk-requires : tie.Need-put-chunk-requires
 put-chunk-requires c κs = search needs
 
-put-directory-row-requires : tie.Need-put-directory-row-requires
-put-directory-row-requires c κs = omega (arith, c .before .before .before .before .before .before .before .before .before .before .before .before .before .before .before .before .before .before .before .before .pre)
+put-stage-requires : tie.Need-put-stage-requires
+put-stage-requires c κs = omega (arith, c .before .before .before .before .before .before .before .before .before .before .before .before .before .before .before .before .before .before .before .before .pre)
 
 same-length-2 : tie.Need-same-length-2
 same-length-2 c = search needs
@@ -41,7 +41,7 @@ same-length-4 : tie.Need-same-length-4
 same-length-4 c = search needs
 
 returns-2 : tie.Need-returns-2
-returns-2 c = let the-args = c .before .before .before .before .before .before .before .before .before .before .before .before .before .before .before .before .before .before .before .before .before .before .before .args in λ vs ms. release-ends (the-args .z) (tables (the-args .z) (the-args .directory .now) (the-args .tasks .now) (the-args .chunks .now) (the-args .entries .now) vs ms) _ (c .before .before .before .before .before .before .before .before .before .before .before .before .before .before .before .before .before .directory-row .ensures) (sym (c .before .before .before .before .before .before .before .before .before .before .before .before .before .before .held-chunk .ensures) ∙ c .before .before .before .before .before .before .before .before .before .before .before .before .before .if1 .left) _ (c .before .before .before .before .before .before .before .before .before .before .before .clear .ensures) _ (rw (← c .before .before .before .before .before .before .before .empty-chunk .ensures) (c .before .before .before .before .before .before .put-chunk .ensures)) _ (c .before .before .put-directory-row .ensures)
+returns-2 c = let the-args = c .before .before .before .before .before .before .before .before .before .before .before .before .before .before .before .before .before .before .before .before .before .before .before .args in λ vs ms. release-ends (the-args .z) (tables (the-args .z) (the-args .directory .now) (the-args .tasks .now) (the-args .chunks .now) (the-args .entries .now) vs ms) _ (c .before .before .before .before .before .before .before .before .before .before .before .before .before .before .before .before .before .directory-row .ensures) (sym (c .before .before .before .before .before .before .before .before .before .before .before .before .before .before .held-chunk .ensures) ∙ c .before .before .before .before .before .before .before .before .before .before .before .before .before .if1 .left) _ (c .before .before .before .before .before .before .before .before .before .before .before .clear .ensures) _ (rw (← c .before .before .before .before .before .before .before .empty-chunk .ensures) (c .before .before .before .before .before .before .put-chunk .ensures)) _ (c .before .before .put-stage .ensures)
 
 pub release-spec : {M : Type 1} → statement M
 release-spec =
@@ -54,7 +54,7 @@ release-spec =
     clear-requires
     empty-chunk-requires
     put-chunk-requires
-    put-directory-row-requires
+    put-stage-requires
     same-length-2
     same-length-3
     same-length-4

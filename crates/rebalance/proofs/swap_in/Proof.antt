@@ -33,8 +33,8 @@ put-chunk-requires c κs = omega (arith, c .before .before .before .before .befo
 first-live-requires : tie.Need-first-live-requires
 first-live-requires c κs = search needs
 
-put-directory-row-requires : tie.Need-put-directory-row-requires
-put-directory-row-requires c κs = omega (arith, c .before .before .before .before .before .before .before .before .before .before .before .before .before .before .before .before .before .before .before .before .before .before .before .before .before .before .before .before .before .before .pre)
+put-stage-requires : tie.Need-put-stage-requires
+put-stage-requires c κs = omega (arith, c .before .before .before .before .before .before .before .before .before .before .before .before .before .before .before .before .before .before .before .before .before .before .before .before .before .before .before .before .before .before .pre)
 
 same-length : tie.Need-same-length
 same-length c = search needs
@@ -43,7 +43,7 @@ same-length-2 : tie.Need-same-length-2
 same-length-2 c = search needs
 
 returns : tie.Need-returns
-returns c = let the-args = c .before .before .before .before .before .before .before .before .before .before .before .before .before .before .before .before .before .before .before .before .before .before .before .before .before .before .before .before .before .before .before .before .before .args in λ ts es vs ms. swap-in-done (the-args .z) (tables (the-args .z) (the-args .directory .now) ts (the-args .chunks .now) es vs ms) _ (c .before .before .before .before .before .before .before .before .before .before .before .before .before .before .before .before .before .before .before .before .before .before .before .before .before .before .before .before .before .directory-row .ensures) _ _ _ (c .before .before .before .before .before .before .before .before .before .before .before .before .before .before .before .before .before .before .before .before .before .before .before .chunk-at .ensures) (c .before .before .before .before .before .before .before .before .before .before .before .before .before .before .before .before .before .before .before .before .before .chunk-at2 .ensures) (c .before .before .before .before .before .before .before .before .before .before .before .before .before .before .before .before .before .before .before .chunk-at3 .ensures) _ _ _ (c .before .before .before .before .before .before .before .before .before .before .before .before .before .before .before .before .join .ensures) (c .before .before .before .before .before .before .before .before .before .before .before .before .place-new .ensures) (rw (← c .before .before .before .before .before .before .before .before .retired .ensures) (c .before .before .before .before .before .before .before .put-chunk .ensures)) _ (rw (← c .before .before .before .first-live .ensures) (c .before .before .put-directory-row .ensures))
+returns c = let the-args = c .before .before .before .before .before .before .before .before .before .before .before .before .before .before .before .before .before .before .before .before .before .before .before .before .before .before .before .before .before .before .before .before .before .args in λ ts es vs ms. swap-in-done (the-args .z) (tables (the-args .z) (the-args .directory .now) ts (the-args .chunks .now) es vs ms) _ (c .before .before .before .before .before .before .before .before .before .before .before .before .before .before .before .before .before .before .before .before .before .before .before .before .before .before .before .before .before .directory-row .ensures) _ _ _ (c .before .before .before .before .before .before .before .before .before .before .before .before .before .before .before .before .before .before .before .before .before .before .before .chunk-at .ensures) (c .before .before .before .before .before .before .before .before .before .before .before .before .before .before .before .before .before .before .before .before .before .chunk-at2 .ensures) (c .before .before .before .before .before .before .before .before .before .before .before .before .before .before .before .before .before .before .before .chunk-at3 .ensures) _ _ _ (c .before .before .before .before .before .before .before .before .before .before .before .before .before .before .before .before .join .ensures) (c .before .before .before .before .before .before .before .before .before .before .before .before .place-new .ensures) (rw (← c .before .before .before .before .before .before .before .before .retired .ensures) (c .before .before .before .before .before .before .before .put-chunk .ensures)) _ (rw (← c .before .before .before .first-live .ensures) (c .before .before .put-stage .ensures))
 
 pub swap-in-spec : {M : Type 1} → statement M
 swap-in-spec =
@@ -58,7 +58,7 @@ swap-in-spec =
     retired-requires
     put-chunk-requires
     first-live-requires
-    put-directory-row-requires
+    put-stage-requires
     same-length
     same-length-2
     returns)
