@@ -1,0 +1,45 @@
+-- A chunk's list and the chain of live chunks, as relations between a number and a list of rows.
+use Prim.Native.Nat.{ℕ, zero, suc, _+_, _≤_, _<_}
+use mathlib.Core.Path.{_≡_}
+use mathlib.Core.Bool.{Bool, true, false}
+use mathlib.Core.List.{List, [], _∷_, List·Memᴰ}
+use lib.Dec.{eqb, ltb, leb}
+use Rattle.rules.specs.declared.Sizes.{Sizes}
+use Rattle.rules.specs.declared.Chunk.{Chunk}
+use Rattle.rules.specs.declared.Entry.{Entry}
+use Rattle.rules.specs.declared.ChunkNo.{ChunkNo}
+use Rattle.rules.specs.declared.EntryNo.{EntryNo}
+use Rattle.rules.specs.Words.{pick, _and_, NONE, live}
+use Rattle.rules.specs.Tables.{Tables, chunkAt, entryAt}
+use Rattle.rules.specs.Walks.{listFrom, locateFrom}
+
+-- the list from e on is of these entries, used ones, keys ascending from k on
+module _ (z : Sizes) (es : List Entry) (c : ChunkNo) (used : ℕ) where
+  unfoldable pub Links : ℕ → EntryNo → List EntryNo → Type 0
+  Links k e [] = e .0 ≡ NONE
+  Links k e (x ∷ l) = (e ≡ x) × (x .0 < used) × (k ≤ entryAt z es c x .key) × Links (entryAt z es c x .key + 1) (entryAt z es c x .next) l
+
+  -- the entry stands where its key belongs
+  unfoldable pub putIn : EntryNo → ℕ → List EntryNo → List EntryNo
+  putIn e k [] = e ∷ []
+  putIn e k (x ∷ l) = let on = x ∷ putIn e k l in pick (ltb (entryAt z es c x .key) k) on (e ∷ x ∷ l)
+
+module _ (z : Sizes) (cs : List Chunk) where
+  -- the chain from c on is of these chunks, live ones, minimum keys ascending from k on
+  unfoldable pub Chain : ℕ → ChunkNo → List ChunkNo → Type 0
+  Chain k c [] = c .0 ≡ NONE
+  Chain k c (x ∷ l) = (c ≡ x) × (x .0 < z .chunks) × (chunkAt cs x .status ≡ live) × (k ≤ chunkAt cs x .min) × Chain (chunkAt cs x .min + 1) (chunkAt cs x .next) l
+
+  -- the chunks from c on, along next
+  unfoldable pub chainFrom : ℕ → ChunkNo → List ChunkNo
+  chainFrom zero c = []
+  chainFrom (suc fuel) c = let on = c ∷ chainFrom fuel (chunkAt cs c .next) in pick (ltb (c .0) (z .chunks)) on []
+
+-- the last chunk of the list before the first whose minimum key is above k, or d
+unfoldable pub lastUpTo : List Chunk → ℕ → ChunkNo → List ChunkNo → ChunkNo
+lastUpTo cs k d [] = d
+lastUpTo cs k d (x ∷ l) = let on = lastUpTo cs k x l in pick (leb (chunkAt cs x .min) k) on d
+
+-- the live chunks, in order
+abbrev pub chain : Sizes → Tables → List ChunkNo
+chain z s = chainFrom z (s .chunks) (z .chunks) (s .directory .first)
