@@ -2,7 +2,7 @@
 use Prim.Native.Nat.{ℕ, zero, suc, _+_, _≤_, _<_}
 use mathlib.Core.Path.{_≡_}
 use mathlib.Core.Bool.{Bool, true, false}
-use mathlib.Core.List.{List, [], _∷_, List·Memᴰ}
+use mathlib.Core.List.{List, [], _∷_, _++_, List·Memᴰ}
 use lib.Dec.{eqb, ltb, leb}
 use Rattle.rules.specs.declared.Sizes.{Sizes}
 use Rattle.rules.specs.declared.Chunk.{Chunk}
@@ -35,10 +35,15 @@ module _ (z : Sizes) (cs : List Chunk) where
   chainFrom zero c = []
   chainFrom (suc fuel) c = let on = c ∷ chainFrom fuel (chunkAt cs c .next) in pick (ltb (c .0) (z .chunks)) on []
 
--- the last chunk of the list before the first whose minimum key is above k, or d
-unfoldable pub lastUpTo : List Chunk → ℕ → ChunkNo → List ChunkNo → ChunkNo
-lastUpTo cs k d [] = d
-lastUpTo cs k d (x ∷ l) = let on = lastUpTo cs k x l in pick (leb (chunkAt cs x .min) k) on d
+-- the key lies in the chunk's range: from its minimum key up to the next live chunk's
+pub record InRange (z : Sizes) (cs : List Chunk) (c : ChunkNo) (k : ℕ) : Type 0 where
+  pub from : chunkAt cs c .min ≤ k
+  pub to : chunkAt cs c .next .0 < z .chunks → k < chunkAt cs (chunkAt cs c .next) .min
+
+-- the chain with new ones in the place of one
+unfoldable pub replaced : ChunkNo → List ChunkNo → List ChunkNo → List ChunkNo
+replaced old new [] = []
+replaced old new (x ∷ l) = let on = x ∷ replaced old new l in pick (eqb (x .0) (old .0)) (new ++ l) on
 
 -- the live chunks, in order
 abbrev pub chain : Sizes → Tables → List ChunkNo
