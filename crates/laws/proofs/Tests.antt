@@ -1,7 +1,8 @@
 -- Laws of `pick` and of tests joined by `and`.
-use mathlib.Core.Path.{_≡_, refl}
+use mathlib.Core.Path.{_≡_, refl, sym}
 use mathlib.Core.Bool.{Bool, true, false, false≢true}
-use Rattle.rules.specs.Words.{pick, _and_}
+use mathlib.Core.Logic.{_⊎_, inl, inr}
+use Rattle.rules.specs.Words.{pick, _and_, _or_}
 
 -- what holds of either case, each under its test, holds of the picked one
 pub picked {ℓ κ} : {A : Type ℓ} (P : A → Type κ) (b : Bool) {x y : A} → (b ≡ true → P x) → (b ≡ false → P y) → P (pick b x y)
@@ -24,3 +25,15 @@ and-left false b h = h
 pub and-right : (a b : Bool) → (a and b) ≡ true → b ≡ true
 and-right true b h = h
 and-right false b h = absurd (false≢true h)
+
+pub or-cases : (a b : Bool) → (a or b) ≡ true → (a ≡ true) ⊎ (b ≡ true)
+or-cases true b h = inl refl
+or-cases false b h = inr h
+
+pub or-left : (a b : Bool) → (a or b) ≡ false → a ≡ false
+or-left true b h = h
+or-left false b h = refl
+
+pub or-right : (a b : Bool) → (a or b) ≡ false → b ≡ false
+or-right true b h = absurd (false≢true (sym h))
+or-right false b h = h
