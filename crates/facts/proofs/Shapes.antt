@@ -156,15 +156,15 @@ module _ (z : Sizes) (lim : Limited z) (s : Tables) (kept : Kept z s) where
       stages : Stages (d .stage)
       stages = at (d .stage) refl (r .known)
 
-  holds-entry : (n : ℕ) → task s n .chunk .0 < z .chunks → EntryHeld z (s .chunks) (s .entries) (task s n .chunk) (task s n .entry) (task s n .key) (task s n .stage) → holdsEntry z s (task s n) ≡ true
-  holds-entry n b held = both _ _ (lt-ltb _ _ (held .used)) (both _ _ (eq-eqb _ _ (held .keyed)) (picked (λ (b : Bool). b ≡ true) (eqb (t .stage) 7) (λ _. refl) (λ ne. links-linked z (s .entries) (t .chunk) (chunk s (t .chunk) .used) small (lim .entries) (z .entries) 0 (chunk s (t .chunk) .head) (t .entry) (listed z (s .chunks) (s .entries) (t .chunk)) (le-trans (links-length z (s .entries) (t .chunk) (chunk s (t .chunk) .used) 0 _ _ links) small) links (held .linked (eqb-false _ _ ne)))))
+  holds-entry : (n : ℕ) → EntryHeld z (s .chunks) (s .entries) (task s n .chunk) (task s n .entry) (task s n .key) (task s n .stage) → holdsEntry z s (task s n) ≡ true
+  holds-entry n held = both _ _ (lt-ltb _ _ (held .used)) (both _ _ (eq-eqb _ _ (held .keyed)) (picked (λ (b : Bool). b ≡ true) (eqb (t .stage) 7) (λ _. refl) (λ ne. links-linked z (s .entries) (t .chunk) (chunk s (t .chunk) .used) small (lim .entries) (z .entries) 0 (chunk s (t .chunk) .head) (t .entry) (listed z (s .chunks) (s .entries) (t .chunk)) (le-trans (links-length z (s .entries) (t .chunk) (chunk s (t .chunk) .used) 0 _ _ links) small) links (held .linked (eqb-false _ _ ne)))))
     where
       t : Task
       t = task s n
       links : Links z (s .entries) (t .chunk) (chunk s (t .chunk) .used) 0 (chunk s (t .chunk) .head) (listed z (s .chunks) (s .entries) (t .chunk))
-      links = tables .lists (t .chunk) b .links
+      links = tables .lists (t .chunk) (held .inside) .links
       small : chunk s (t .chunk) .used ≤ z .entries
-      small = tables .lists (t .chunk) b .row .used
+      small = tables .lists (t .chunk) (held .inside) .row .used
 
   task-right : (n : ℕ) → taskRight z s n (task s n) ≡ true
   task-right n =
@@ -189,13 +189,8 @@ module _ (z : Sizes) (lim : Limited z) (s : Tables) (kept : Kept z s) where
       in-use : Holds z t h → pick (eqb (h .chunk) 0) true (ltb 0 (chunk s (t .chunk) .status)) ≡ true
       in-use w = picked (λ (b : Bool). b ≡ true) (eqb (h .chunk) 0) (λ _. refl) (λ e. lt-ltb 0 (chunk s (t .chunk) .status) (lives (at-chunk e w)))
       there : Holds z t h → pick (eqb (h .entry) 0) true (holdsEntry z s t) ≡ true
-      there w = picked (λ (b : Bool). b ≡ true) (eqb (h .entry) 0) (λ _. refl) (λ e. holds-entry n (at-chunk (one e) w) (held e))
+      there w = picked (λ (b : Bool). b ≡ true) (eqb (h .entry) 0) (λ _. refl) (λ e. holds-entry n (held e))
         where
-          one : eqb (h .entry) 0 ≡ false → eqb (h .chunk) 0 ≡ false
-          one e = ne-eqb (h .chunk) 0 (λ q. eqb-false (h .entry) 0 e (zero-of q))
-            where
-              zero-of : h .chunk ≡ 0 → h .entry ≡ 0
-              zero-of q = omega (arith, entry-row)
           held : eqb (h .entry) 0 ≡ false → EntryHeld z (s .chunks) (s .entries) (t .chunk) (t .entry) (t .key) (t .stage)
           held e = kept .tasks n .entry (held-one (h .entry) (z .entries) (t .entry .0) (le-trans entry-row chunk-row) e (w .entry))
       busy : Holds z t h → (fitsOperation (t .operation) (t .stage) and pick (usesFunction (t .operation)) (leb 1 (t .function) and leb (t .function) 3) true and holdsRight z s t h) ≡ true

@@ -100,6 +100,16 @@ pub record Tabled (z : Sizes) (d : Directory) (cs : List Chunk) (es : List Entry
   pub rebalancing : Rebalancing z d cs
   pub made : d .stage ≡ toSwap → Made z d cs es
 
+-- ---- what a step leaves in every chunk's row
+pub record Same (cs cs′ : List Chunk) : Type 0 where
+  pub sized : length cs′ ≡ length cs
+  pub live : liveCount cs′ ≡ liveCount cs
+  pub unused : unusedCount cs′ ≡ unusedCount cs
+  pub status : (c : ChunkNo) → chunkAt cs′ c .status ≡ chunkAt cs c .status
+  pub frozen : (c : ChunkNo) → chunkAt cs′ c .frozen ≡ chunkAt cs c .frozen
+  pub min : (c : ChunkNo) → chunkAt cs′ c .min ≡ chunkAt cs c .min
+  pub next : (c : ChunkNo) → chunkAt cs′ c .next ≡ chunkAt cs c .next
+
 -- ---- a task
 -- what a stage must and may hold
 abbrev pub holdAt : ℕ → Hold
@@ -121,6 +131,7 @@ ChunkOfKey z cs c k = (chunkAt cs c .status ≡ retired) ⊎ ((chunkAt cs c .sta
 
 -- a held entry is used, has the task's key, and is linked, except at 7
 pub record EntryHeld (z : Sizes) (cs : List Chunk) (es : List Entry) (c : ChunkNo) (e : EntryNo) (k stage : ℕ) : Type 0 where
+  pub inside : c .0 < z .chunks
   pub used : e .0 < chunkAt cs c .used
   pub keyed : entryAt z es c e .key ≡ k
   pub linked : stage ≢ 7 → List·Memᴰ e (listed z cs es c)
