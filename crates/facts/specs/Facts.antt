@@ -88,6 +88,8 @@ pub record Rebalancing (z : Sizes) (d : Directory) (cs : List Chunk) : Type 0 wh
   pub new : toSwap ≤ d .stage → d .new .0 < z .chunks
   pub second : toSwap ≤ d .stage → numbers (z .chunks) (d .second .0) ≡ true
   pub apart : toSwap ≤ d .stage → d .new .0 ≢ d .second .0
+  pub old-new : toSwap ≤ d .stage → d .old .0 ≢ d .new .0
+  pub old-second : toSwap ≤ d .stage → d .old .0 ≢ d .second .0
   pub roles : (c : ChunkNo) → c .0 < z .chunks → Roles d (c .0) (chunkAt cs c)
 
 -- ---- the directory, the chunks and the entries
