@@ -1,3 +1,4 @@
 pub mod Numbers
 pub mod Shapes
 pub mod Sames
+pub mod Writes

@@ -3,12 +3,19 @@ use Prim.Native.Nat.{ℕ, zero, suc, _≤_, _<_}
 use mathlib.Core.Path.{_≡_, refl, sym, _∙_}
 use mathlib.Core.Logic.{_⊎_, inl, inr, ⊎-map, _≢_}
 use mathlib.Core.Bool.{Bool, true, false}
+use mathlib.Core.List.{List, [], _∷_}
+use native.Mathlib.Nat.{le-trans}
 use native.Mathlib.Omega.{arith}
 use lib.Dec.{eqb, ltb, leb}
 use borrow.Author.Tests.{lt-ltb, ltb-true, eqb-true, eqb-false}
+use Rattle.rules.specs.declared.Sizes.{Sizes}
+use Rattle.rules.specs.declared.Entry.{Entry}
+use Rattle.rules.specs.declared.ChunkNo.{ChunkNo}
+use Rattle.rules.specs.declared.EntryNo.{EntryNo}
 use Rattle.rules.specs.Words.{pick, _or_, NONE}
 use Rattle.rules.specs.Shape.{numbers, heldAs}
 use Rattle.laws.proofs.Tests.{picked, or-cases}
+use Rattle.views.specs.Views.{Links}
 
 -- a number of the table, or none
 pub number-in : (size n : ℕ) → n < size → numbers size n ≡ true
@@ -28,3 +35,9 @@ held-one how size n le ne h = ltb-true n size (rw (one) at h)
     not-zero = eqb-false how 0 ne
     one : how ≡ 1
     one = omega (arith, not-zero)
+
+-- a list's head is a used entry, or none
+pub head-right : (z : Sizes) (es : List Entry) (c : ChunkNo) (used : ℕ) → used ≤ z .entries → (k : ℕ) (e : EntryNo) (l : List EntryNo) → Links z es c used k e l → numbers (z .entries) (e .0) ≡ true
+unfolding Links
+head-right z es c used b k e [] h = rw (h) (number-none (z .entries))
+head-right z es c used b k e (x ∷ l) h = rw (h .0) (number-in _ _ (le-trans (h .1) b))

@@ -27,14 +27,8 @@ use Rattle.laws.proofs.Lists.{each-by, all-at, row-within}
 use Rattle.views.specs.Views.{Links, Chain, InRange}
 use Rattle.views.proofs.Entries.{links-length, links-ascends, links-linked}
 use Rattle.views.proofs.Chunks.{chain-count, chain-live}
-use Rattle.facts.proofs.Numbers.{number-in, number-none, held-one}
+use Rattle.facts.proofs.Numbers.{held-one, head-right}
 use Rattle.facts.specs.Facts.{Limited, RowRight, SlotRight, ListRight, listed, Chained, Roles, Rebalancing, Tabled, Holds, holdAt, EntryHeld, Tasked, Kept}
-
--- a list's head is a used entry, or none
-head-right : (z : Sizes) (es : List Entry) (c : ChunkNo) (used : ℕ) → used ≤ z .entries → (k : ℕ) (e : EntryNo) (l : List EntryNo) → Links z es c used k e l → numbers (z .entries) (e .0) ≡ true
-unfolding Links
-head-right z es c used b k e [] h = rw (h) (number-none (z .entries))
-head-right z es c used b k e (x ∷ l) h = rw (h .0) (number-in _ _ (le-trans (h .1) b))
 
 live-count-le : (cs : List Chunk) → liveCount cs ≤ length cs
 unfolding liveCount

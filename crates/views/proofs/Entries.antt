@@ -1,9 +1,9 @@
 -- Laws of a chunk's list: what the walks along it find, and how a write changes it.
 use Prim.Native.Nat.{ℕ, zero, suc, _+_, _≤_, _<_, suc-le-suc, zero-le}
 use mathlib.Core.Path.{_≡_, refl, sym, ap, _∙_, subst}
-use mathlib.Core.Logic.{_⊎_, inl, inr, ⊎-elim, _≢_}
+use mathlib.Core.Logic.{_⊎_, inl, inr, ⊎-elim, ⊎-map, _≢_}
 use mathlib.Core.Bool.{Bool, true, false}
-use mathlib.Core.List.{List, [], _∷_, List·Memᴰ, List·Memᴰ·head, List·Memᴰ·tail, List·Memᴰ·not-nil, List·Memᴰ·cases-cons, Memᴰ·cast}
+use mathlib.Core.List.{List, [], _∷_, List·Memᴰ, List·Memᴰ·head, List·Memᴰ·tail, List·Memᴰ·not-nil, List·Memᴰ·cases-cons, List·Memᴰ·eq-of-singleton, Memᴰ·cast}
 use native.Mathlib.Nat.{le-of-suc-le-suc, not-suc-le-zero, le-trans, le-refl}
 use native.Mathlib.Omega.{arith}
 use lib.Dec.{eqb, ltb, leb}
@@ -204,3 +204,44 @@ module _ (z : Sizes) (es es′ : List Entry) (c : ChunkNo) (used : ℕ) (small :
               picked (λ (a : EntryNo). entryAt z es′ c x .next ≡ a) (ltb (entryAt z es c y .key) k)
               (λ t′. nexts x (List·Memᴰ·head refl) (λ o. lone x (rw (← p) at (Memᴰ·cast o (past y r p t′))) refl))
               (λ t′. turned (on ∙ place-stop z es c used small sized fuel (entryAt z es c x .key + 1) x (entryAt z es c x .next) y r k (rw p at (h .3)) (ltb-false (entryAt z es c y .key) k t′)))
+
+  -- where the place is an entry, the list starts as before; where there is none, the new entry is first
+  pub start-kept : (fuel lo : ℕ) (a : EntryNo) (l : List EntryNo) → Links z es c used lo a l → placeFrom z es c fuel noEntry a k .0 < z .entries → startOf a l ≡ a
+  unfolding startOf
+  start-kept fuel lo a [] h b = absurd (never (place-none z es c used small sized fuel lo noEntry a k h))
+    where
+      never : placeFrom z es c fuel noEntry a k ≡ noEntry → ⊥
+      never q = omega (arith, b, sized, ap (λ (e : EntryNo). e .0) q)
+  start-kept fuel lo a (x ∷ l) h b = picked (λ (r : EntryNo). r ≡ a) (ltb (entryAt z es c x .key) k) (λ t. refl) (λ t. absurd (never (place-stop z es c used small sized fuel lo noEntry a x l k h (ltb-false _ _ t))))
+    where
+      never : placeFrom z es c fuel noEntry a k ≡ noEntry → ⊥
+      never q = omega (arith, b, sized, ap (λ (e : EntryNo). e .0) q)
+
+  pub start-new : (fuel lo : ℕ) (a : EntryNo) (l : List EntryNo) → length l ≤ fuel → Links z es c used lo a l → z .entries ≤ placeFrom z es c fuel noEntry a k .0 → startOf a l ≡ e
+  unfolding startOf
+  start-new fuel lo a [] s h b = refl
+  start-new fuel lo a (x ∷ l) s h b = picked (λ (r : EntryNo). r ≡ e) (ltb (entryAt z es c x .key) k) (λ t. absurd (never (links-below z es c used lo a (x ∷ l) h _ (place-past z es c used small sized fuel lo noEntry a x l k s h (ltb-true _ _ t))))) (λ t. refl)
+    where
+      never : placeFrom z es c fuel noEntry a k .0 < used → ⊥
+      never q = omega (arith, b, small)
+
+-- ---- the members of a list with an entry put in
+module _ (z : Sizes) (es : List Entry) (c : ChunkNo) (used : ℕ) (e : EntryNo) (k : ℕ) where
+  pub put-new : (l : List EntryNo) → List·Memᴰ e (putIn z es c used e k l)
+  unfolding putIn
+  put-new [] = List·Memᴰ·head refl
+  put-new (x ∷ l) = picked (λ (r : List EntryNo). List·Memᴰ e r) (ltb (entryAt z es c x .key) k) (λ _. List·Memᴰ·tail (put-new l)) (λ _. List·Memᴰ·head refl)
+
+  pub put-old : (l : List EntryNo) (y : EntryNo) → List·Memᴰ y l → List·Memᴰ y (putIn z es c used e k l)
+  unfolding putIn
+  put-old [] y m = absurd (List·Memᴰ·not-nil m)
+  put-old (x ∷ l) y m =
+      picked (λ (r : List EntryNo). List·Memᴰ y r) (ltb (entryAt z es c x .key) k)
+      (λ _. ⊎-elim (λ p. List·Memᴰ·head p) (λ n. List·Memᴰ·tail (put-old l y n)) (List·Memᴰ·cases-cons m)) (λ _. List·Memᴰ·tail m)
+
+  pub put-cases : (l : List EntryNo) (y : EntryNo) → List·Memᴰ y (putIn z es c used e k l) → (y ≡ e) ⊎ List·Memᴰ y l
+  unfolding putIn
+  put-cases [] y = λ m. inl (List·Memᴰ·eq-of-singleton m)
+  put-cases (x ∷ l) y =
+      picked (λ (r : List EntryNo). List·Memᴰ y r → (y ≡ e) ⊎ List·Memᴰ y (x ∷ l)) (ltb (entryAt z es c x .key) k)
+      (λ _ m. ⊎-elim (λ p. inr (List·Memᴰ·head p)) (λ n. ⊎-map (λ p. p) (λ o. List·Memᴰ·tail o) (put-cases l y n)) (List·Memᴰ·cases-cons m)) (λ _ m. List·Memᴰ·cases-cons m)
