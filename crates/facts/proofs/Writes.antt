@@ -79,3 +79,102 @@ module _ (z : Sizes) (lim : Limited z) (d : Directory) (cs : List Chunk) (es : L
           tables = tabled-kept z cs cs (same-all cs) es named d h (length-set es _ _) (λ f bf. record { row = h .lists f bf .row; slot = named-slot f bf; links = named-quiet f bf .1 }) (λ f bf. inl (record { list = named-quiet f bf .0; keys = λ x m. named-row f x (inside f bf x m) .0 }));
           tasks = λ t r. tasked-kept z cs cs (same-all cs) es named t r (λ f bf. le-refl _) (λ f x bf ux. named-row f x (le-trans ux (h .lists f bf .row .used)) .0) (λ f x bf m. rw (named-quiet f bf .0) m);
         }
+
+  -- ---- a slot taken
+  module _ (c : ChunkNo) (k : ℕ) (b : c .0 < z .chunks) (used : chunkAt cs c .status ≢ unused) (room : chunkAt cs c .used < z .entries) where
+    slot : EntryNo
+    slot = entryNo (chunkAt cs c .used)
+
+    taken : Chunk
+    taken = record { status = chunkAt cs c .status; frozen = chunkAt cs c .frozen; min = chunkAt cs c .min; next = chunkAt cs c .next; head = chunkAt cs c .head; used = chunkAt cs c .used + 1 }
+
+    chunks′ : List Chunk
+    chunks′ = set cs (c .0) taken
+
+    filled : Entry
+    filled = record { key = k; handle = noHandle; next = noEntry }
+
+    entries′ : List Entry
+    entries′ = set es (row z c slot) filled
+
+    many : c .0 < length cs
+    many = rw (h .chunks-sized) b
+
+    slot-same : Same cs chunks′
+    unfolding taken chunks′
+    slot-same = same-put cs c taken many refl refl refl refl
+
+    slot-head : (f : ChunkNo) → chunkAt chunks′ f .head ≡ chunkAt cs f .head
+    unfolding taken chunks′
+    slot-head f = chunk-put cs c taken f (λ y. y .head ≡ chunkAt cs f .head) many (λ p. rw p refl) (λ _. refl)
+
+    slot-used : (f : ChunkNo) → (P : ℕ → Type 0) → (f ≡ c → P (chunkAt cs c .used + 1)) → (f ≢ c → P (chunkAt cs f .used)) → P (chunkAt chunks′ f .used)
+    unfolding taken chunks′
+    slot-used f P = chunk-put cs c taken f (λ y. P (y .used)) many
+
+    -- a used entry's row is as it was
+    slot-row : (f : ChunkNo) (x : EntryNo) → x .0 < chunkAt cs f .used → x .0 < z .entries → entryAt z entries′ f x ≡ entryAt z es f x
+    unfolding slot entries′
+    slot-row f x ux bx = entry-put z es c slot filled f x (λ y. y ≡ entryAt z es f x) (h .entries-sized) b room bx (λ p q. absurd (never p q)) (λ _. refl)
+      where
+        never : f ≡ c → x ≡ slot → ⊥
+        never p q = omega (arith, ux, ap (λ (e : EntryNo). e .0) q, ap (λ (f : ChunkNo). chunkAt cs f .used) p)
+
+    slot-slot : (f : ChunkNo) → f .0 < z .chunks → (x : EntryNo) → x .0 < z .entries → SlotRight z (chunkAt chunks′ f .used) (x .0) (entryAt z entries′ f x)
+    unfolding slot entries′ filled
+    slot-slot f bf x bx =
+        entry-put z es c slot filled f x (λ y. SlotRight z (chunkAt chunks′ f .used) (x .0) y) (h .entries-sized) b room bx
+        (λ p q. record { handle = λ _. number-none (z .handles); next = λ _. number-none (z .entries); empty = λ le. absurd (slot-used f (λ n. n ≤ x .0 → ⊥) (λ _ le. over (ap (λ (e : EntryNo). e .0) q) le) (λ ne. absurd (ne p)) le) })
+        (λ apart. slot-used f (λ n. SlotRight z n (x .0) (entryAt z es f x)) (λ p. grown p (apart p)) (λ _. h .lists f bf .slot x bx))
+      where
+        over : x .0 ≡ chunkAt cs c .used → chunkAt cs c .used + 1 ≤ x .0 → ⊥
+        over q le = omega arith
+        grown : f ≡ c → (x ≡ slot → ⊥) → SlotRight z (chunkAt cs c .used + 1) (x .0) (entryAt z es f x)
+        grown p ne = record { handle = λ lt. s .handle (less lt); next = λ lt. s .next (less lt); empty = λ le. s .empty (more le) }
+          where
+            s : SlotRight z (chunkAt cs f .used) (x .0) (entryAt z es f x)
+            s = h .lists f bf .slot x bx
+            other : x .0 ≢ chunkAt cs c .used
+            other q = ne (ap entryNo q)
+            less : x .0 < chunkAt cs c .used + 1 → x .0 < chunkAt cs f .used
+            less lt = omega (arith, other, ap (λ (f : ChunkNo). chunkAt cs f .used) p)
+            more : chunkAt cs c .used + 1 ≤ x .0 → chunkAt cs f .used ≤ x .0
+            more le = omega (arith, ap (λ (f : ChunkNo). chunkAt cs f .used) p)
+
+    slot-chunk : (f : ChunkNo) → f .0 < z .chunks → RowRight z (chunkAt chunks′ f)
+    unfolding taken chunks′
+    slot-chunk f bf = chunk-put cs c taken f (RowRight z) many (λ p. record { status = r .status; frozen = r .frozen; next = r .next; used = rw add-one room; empty = λ e. absurd (used e) }) (λ _. h .lists f bf .row)
+      where
+        r : RowRight z (chunkAt cs c)
+        r = h .lists c b .row
+
+    slot-quiet : (f : ChunkNo) → f .0 < z .chunks → (listed z chunks′ entries′ f ≡ listed z cs es f) × Links z entries′ f (chunkAt chunks′ f .used) 0 (chunkAt chunks′ f .head) (listed z chunks′ entries′ f)
+    slot-quiet f bf =
+        list-quiet z lim cs chunks′ es entries′ f (h .lists f bf) (slot-head f) (slot-more f) (slot-chunk f bf .used)
+        (λ x m. rw (slot-row f x (below f bf x m) (inside f bf x m)) (refl, refl))
+      where
+        slot-more : (f : ChunkNo) → chunkAt cs f .used ≤ chunkAt chunks′ f .used
+        slot-more f = slot-used f (λ n. chunkAt cs f .used ≤ n) (λ p. rw p (omega arith)) (λ _. le-refl _)
+
+    pub slot-written : Written z d cs es
+        (set cs (c .0) (record { status = chunkAt cs c .status; frozen = chunkAt cs c .frozen; min = chunkAt cs c .min; next = chunkAt cs c .next; head = chunkAt cs c .head; used = chunkAt cs c .used + 1 }))
+        (set es (row z c (entryNo (chunkAt cs c .used))) (record { key = k; handle = noHandle; next = noEntry }))
+    unfolding taken chunks′ entries′ filled slot
+    slot-written =
+        record {
+          tables = tabled-kept z cs chunks′ slot-same es entries′ d h (length-set es _ _) (λ f bf. record { row = slot-chunk f bf; slot = slot-slot f bf; links = slot-quiet f bf .1 }) (λ f bf. inl (record { list = slot-quiet f bf .0; keys = λ x m. ap (λ (y : Entry). y .key) (slot-row f x (below f bf x m) (inside f bf x m)) }));
+          tasks = λ t r. tasked-kept z cs chunks′ slot-same es entries′ t r (λ f bf. slot-used f (λ n. chunkAt cs f .used ≤ n) (λ p. rw p (omega arith)) (λ _. le-refl _)) (λ f x bf ux. ap (λ (y : Entry). y .key) (slot-row f x ux (le-trans ux (h .lists f bf .row .used)))) (λ f x bf m. rw (slot-quiet f bf .0) m);
+        }
+
+    -- the slot taken is the key's, and its number is below the count
+    pub slot-held : EntryHeld z
+        (set cs (c .0) (record { status = chunkAt cs c .status; frozen = chunkAt cs c .frozen; min = chunkAt cs c .min; next = chunkAt cs c .next; head = chunkAt cs c .head; used = chunkAt cs c .used + 1 }))
+        (set es (row z c (entryNo (chunkAt cs c .used))) (record { key = k; handle = noHandle; next = noEntry })) c (entryNo (chunkAt cs c .used)) k 7
+    unfolding taken chunks′ entries′ filled slot
+    slot-held =
+        record {
+          inside = b;
+          used = slot-used c (λ n. chunkAt cs c .used < n) (λ _. omega arith) (λ ne. absurd (ne refl));
+          keyed = entry-put z es c slot filled c slot (λ y. y .key ≡ k) (h .entries-sized) b room room (λ _ _. refl) (λ ne. absurd (ne refl refl));
+          linked = λ ne. absurd (ne refl);
+        }
