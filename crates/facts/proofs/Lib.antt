@@ -2,3 +2,4 @@ pub mod Numbers
 pub mod Shapes
 pub mod Sames
 pub mod Writes
+pub mod Linking

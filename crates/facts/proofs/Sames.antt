@@ -81,7 +81,7 @@ module _ (z : Sizes) (cs cs′ : List Chunk) (same : Same cs cs′) where
         m′ = rw (q .list) at m
 
     -- in one chunk that is no new one the list may grow by a key of its range
-    abbrev Grown : ChunkNo → Type 0
+    abbrev pub Grown : ChunkNo → Type 0
     Grown c = (chunkAt cs c .status ≢ new) × (chunkAt cs c .status ≡ live → Every (λ e. InRange z cs c (entryAt z es′ c e .key)) (listed z cs′ es′ c))
 
     pub tabled-kept : (d : Directory) → Tabled z d cs es → length es′ ≡ length es → ((c : ChunkNo) → c .0 < z .chunks → ListRight z cs′ es′ c) →

@@ -22,14 +22,14 @@ use Rattle.rules.specs.Tables.{emptyChunk, chunkAt, entryAt, row}
 use Rattle.rules.specs.Stages.{withHandle, withNext, withHead}
 use Rattle.rules.specs.Shape.{numbers}
 use Rattle.laws.specs.Counts.{Every}
-use Rattle.views.specs.Views.{Links, putIn, InRange}
+use Rattle.views.specs.Views.{Links}
 use Rattle.views.proofs.Rows.{chunk-put, entry-put}
-use Rattle.views.proofs.Entries.{links-below, links-length, links-view, links-put, startOf, start-kept, start-new, place-in, put-new, put-old, put-cases}
+use Rattle.views.proofs.Entries.{links-below}
 use Rattle.facts.specs.Facts.{Limited, RowRight, SlotRight, ListRight, listed, Tabled, Same, EntryHeld, Tasked}
 use Rattle.facts.proofs.Numbers.{number-in, number-none, head-right}
 use Rattle.facts.proofs.Sames.{same-all, same-put, Quiet, tabled-kept, tasked-kept, list-quiet}
 
-same-chunk : (c d : ChunkNo) → (c ≡ d) ⊎ (c ≢ d)
+pub same-chunk : (c d : ChunkNo) → (c ≡ d) ⊎ (c ≢ d)
 same-chunk c d = elim (ℕ-discrete (c .0) (d .0)) [ yes e ↦ inl (ap chunkNo e) | no ne ↦ inr (λ e. ne (ap (λ (c : ChunkNo). c .0) e)) ]
 
 -- the facts after a write, and that it leaves each task's
@@ -42,10 +42,10 @@ module _ (z : Sizes) (lim : Limited z) (d : Directory) (cs : List Chunk) (es : L
   nothing-written = record { tables = h; tasks = λ t r. r }
 
   -- a linked entry is one of the chunk's
-  below : (c : ChunkNo) → c .0 < z .chunks → Every (λ x. x .0 < chunkAt cs c .used) (listed z cs es c)
+  pub below : (c : ChunkNo) → c .0 < z .chunks → Every (λ x. x .0 < chunkAt cs c .used) (listed z cs es c)
   below c b = links-below z es c (chunkAt cs c .used) 0 (chunkAt cs c .head) (listed z cs es c) (h .lists c b .links)
 
-  inside : (c : ChunkNo) → c .0 < z .chunks → Every (λ x. x .0 < z .entries) (listed z cs es c)
+  pub inside : (c : ChunkNo) → c .0 < z .chunks → Every (λ x. x .0 < z .entries) (listed z cs es c)
   inside c b x m = le-trans (below c b x m) (h .lists c b .row .used)
 
   module _ (c : ChunkNo) (e : EntryNo) (n : HandleNo) (b : c .0 < z .chunks) (u : e .0 < chunkAt cs c .used) (num : numbers (z .handles) (n .0) ≡ true) where

@@ -20,7 +20,7 @@ use Rattle.rules.specs.Shape.{ascendsFrom, linkedFrom}
 use Rattle.laws.specs.Counts.{Every, Apart}
 use Rattle.laws.proofs.Tests.{picked, by-test}
 use Rattle.laws.proofs.Lists.{at-most}
-use Rattle.views.specs.Views.{Links, putIn}
+use Rattle.views.specs.Views.{Links, putIn, startOf}
 
 module _ (z : Sizes) (es : List Entry) (c : ChunkNo) (used : ℕ) where
   key : EntryNo → ℕ
@@ -148,11 +148,6 @@ links-frame z es es′ c used used′ k e (x ∷ l) b h same =
 -- an entry put in where its key belongs, by the two rows that change
 module _ (z : Sizes) (es es′ : List Entry) (c : ChunkNo) (used : ℕ) (small : used ≤ z .entries) (sized : z .entries ≤ NONE)
     (e : EntryNo) (k : ℕ) (within : e .0 < used) (keyed : entryAt z es′ c e .key ≡ k) where
-  -- what stands first then
-  unfoldable pub startOf : EntryNo → List EntryNo → EntryNo
-  startOf a [] = e
-  startOf a (x ∷ l) = pick (ltb (entryAt z es c x .key) k) a e
-
   pub links-put : (fuel lo : ℕ) (prev a before : EntryNo) (l : List EntryNo) → length l ≤ fuel → Links z es c used lo a l → lo ≤ k →
       Every (λ x. entryAt z es c x .key ≢ k) l →
       Every (λ x. x ≢ prev) l →
@@ -161,7 +156,7 @@ module _ (z : Sizes) (es es′ : List Entry) (c : ChunkNo) (used : ℕ) (small :
       Every (λ x. entryAt z es′ c x .key ≡ entryAt z es c x .key) l →
       Every (λ x. x ≢ before → entryAt z es′ c x .next ≡ entryAt z es c x .next) l →
       (List·Memᴰ before l → (entryAt z es′ c before .next ≡ e) × (entryAt z es′ c e .next ≡ entryAt z es c before .next)) →
-      Links z es′ c used lo (startOf a l) (putIn z es c used e k l)
+      Links z es′ c used lo (startOf z es c e k a l) (putIn z es c e k l)
   unfolding Links putIn startOf Apart
   links-put fuel lo prev a before [] b h lk other new q first keys nexts at =
       (refl, within, rw keyed lk, rw (first (q ∙ place-none z es c used small sized fuel lo prev a k h)) h)
@@ -172,7 +167,7 @@ module _ (z : Sizes) (es es′ : List Entry) (c : ChunkNo) (used : ℕ) (small :
       (λ t. here (ltb-false _ _ t))
     where
       New : Type 0
-      New = Links z es′ c used lo (pick (ltb (entryAt z es c x .key) k) a e) (pick (ltb (entryAt z es c x .key) k) (x ∷ putIn z es c used e k l) (e ∷ x ∷ l))
+      New = Links z es′ c used lo (pick (ltb (entryAt z es c x .key) k) a e) (pick (ltb (entryAt z es c x .key) k) (x ∷ putIn z es c e k l) (e ∷ x ∷ l))
       here : k ≤ entryAt z es c x .key → New
       here t = rw (le-ltb (entryAt z es c x .key) k t) (refl, within, rw keyed lk, rw (keyed, first stop) (links-frame z es es′ c used used (k + 1) a (x ∷ l) (le-refl used) (h .0, h .1, above, h .3) (λ y m. (keys y m, nexts y m (λ p. new y m (p ∙ stop))))))
         where
@@ -182,7 +177,7 @@ module _ (z : Sizes) (es es′ : List Entry) (c : ChunkNo) (used : ℕ) (small :
           above = omega (arith, other x (List·Memᴰ·head refl))
       after : entryAt z es c x .key < k →
           (entryAt z es c x .key + 1 ≤ k → Every (λ y. y ≢ x) l → before ≡ placeFrom z es c fuel x (entryAt z es c x .next) k → (before ≡ x → entryAt z es′ c e .next ≡ entryAt z es c x .next) →
-          Links z es′ c used (entryAt z es c x .key + 1) (startOf (entryAt z es c x .next) l) (putIn z es c used e k l)) → New
+          Links z es′ c used (entryAt z es c x .key + 1) (startOf z es c e k (entryAt z es c x .next) l) (putIn z es c e k l)) → New
       after t rest =
           rw (lt-ltb (entryAt z es c x .key) k t) (h .0, h .1, rw same (h .2), rw (same, follows l refl) (rest (omega arith) lone on first′))
         where
@@ -198,7 +193,7 @@ module _ (z : Sizes) (es es′ : List Entry) (c : ChunkNo) (used : ℕ) (small :
           turned p = ap (λ (e : EntryNo). entryAt z es′ c e .next) (sym p) ∙ at (List·Memᴰ·head p) .0
           past : (y : EntryNo) (r : List EntryNo) → l ≡ y ∷ r → ltb (entryAt z es c y .key) k ≡ true → List·Memᴰ before (y ∷ r)
           past y r p t′ = rw on (place-past z es c used small sized fuel (entryAt z es c x .key + 1) x (entryAt z es c x .next) y r k (rw p at (le-of-suc-le-suc b)) (rw p at (h .3)) (ltb-true (entryAt z es c y .key) k t′))
-          follows : (r : List EntryNo) → l ≡ r → entryAt z es′ c x .next ≡ startOf (entryAt z es c x .next) r
+          follows : (r : List EntryNo) → l ≡ r → entryAt z es′ c x .next ≡ startOf z es c e k (entryAt z es c x .next) r
           follows [] p = turned (on ∙ place-none z es c used small sized fuel (entryAt z es c x .key + 1) x (entryAt z es c x .next) k (rw p at (h .3)))
           follows (y ∷ r) p =
               picked (λ (a : EntryNo). entryAt z es′ c x .next ≡ a) (ltb (entryAt z es c y .key) k)
@@ -206,7 +201,7 @@ module _ (z : Sizes) (es es′ : List Entry) (c : ChunkNo) (used : ℕ) (small :
               (λ t′. turned (on ∙ place-stop z es c used small sized fuel (entryAt z es c x .key + 1) x (entryAt z es c x .next) y r k (rw p at (h .3)) (ltb-false (entryAt z es c y .key) k t′)))
 
   -- where the place is an entry, the list starts as before; where there is none, the new entry is first
-  pub start-kept : (fuel lo : ℕ) (a : EntryNo) (l : List EntryNo) → Links z es c used lo a l → placeFrom z es c fuel noEntry a k .0 < z .entries → startOf a l ≡ a
+  pub start-kept : (fuel lo : ℕ) (a : EntryNo) (l : List EntryNo) → Links z es c used lo a l → placeFrom z es c fuel noEntry a k .0 < z .entries → startOf z es c e k a l ≡ a
   unfolding startOf
   start-kept fuel lo a [] h b = absurd (never (place-none z es c used small sized fuel lo noEntry a k h))
     where
@@ -217,7 +212,7 @@ module _ (z : Sizes) (es es′ : List Entry) (c : ChunkNo) (used : ℕ) (small :
       never : placeFrom z es c fuel noEntry a k ≡ noEntry → ⊥
       never q = omega (arith, b, sized, ap (λ (e : EntryNo). e .0) q)
 
-  pub start-new : (fuel lo : ℕ) (a : EntryNo) (l : List EntryNo) → length l ≤ fuel → Links z es c used lo a l → z .entries ≤ placeFrom z es c fuel noEntry a k .0 → startOf a l ≡ e
+  pub start-new : (fuel lo : ℕ) (a : EntryNo) (l : List EntryNo) → length l ≤ fuel → Links z es c used lo a l → z .entries ≤ placeFrom z es c fuel noEntry a k .0 → startOf z es c e k a l ≡ e
   unfolding startOf
   start-new fuel lo a [] s h b = refl
   start-new fuel lo a (x ∷ l) s h b = picked (λ (r : EntryNo). r ≡ e) (ltb (entryAt z es c x .key) k) (λ t. absurd (never (links-below z es c used lo a (x ∷ l) h _ (place-past z es c used small sized fuel lo noEntry a x l k s h (ltb-true _ _ t))))) (λ t. refl)
@@ -226,20 +221,20 @@ module _ (z : Sizes) (es es′ : List Entry) (c : ChunkNo) (used : ℕ) (small :
       never q = omega (arith, b, small)
 
 -- ---- the members of a list with an entry put in
-module _ (z : Sizes) (es : List Entry) (c : ChunkNo) (used : ℕ) (e : EntryNo) (k : ℕ) where
-  pub put-new : (l : List EntryNo) → List·Memᴰ e (putIn z es c used e k l)
+module _ (z : Sizes) (es : List Entry) (c : ChunkNo) (e : EntryNo) (k : ℕ) where
+  pub put-new : (l : List EntryNo) → List·Memᴰ e (putIn z es c e k l)
   unfolding putIn
   put-new [] = List·Memᴰ·head refl
   put-new (x ∷ l) = picked (λ (r : List EntryNo). List·Memᴰ e r) (ltb (entryAt z es c x .key) k) (λ _. List·Memᴰ·tail (put-new l)) (λ _. List·Memᴰ·head refl)
 
-  pub put-old : (l : List EntryNo) (y : EntryNo) → List·Memᴰ y l → List·Memᴰ y (putIn z es c used e k l)
+  pub put-old : (l : List EntryNo) (y : EntryNo) → List·Memᴰ y l → List·Memᴰ y (putIn z es c e k l)
   unfolding putIn
   put-old [] y m = absurd (List·Memᴰ·not-nil m)
   put-old (x ∷ l) y m =
       picked (λ (r : List EntryNo). List·Memᴰ y r) (ltb (entryAt z es c x .key) k)
       (λ _. ⊎-elim (λ p. List·Memᴰ·head p) (λ n. List·Memᴰ·tail (put-old l y n)) (List·Memᴰ·cases-cons m)) (λ _. List·Memᴰ·tail m)
 
-  pub put-cases : (l : List EntryNo) (y : EntryNo) → List·Memᴰ y (putIn z es c used e k l) → (y ≡ e) ⊎ List·Memᴰ y l
+  pub put-cases : (l : List EntryNo) (y : EntryNo) → List·Memᴰ y (putIn z es c e k l) → (y ≡ e) ⊎ List·Memᴰ y l
   unfolding putIn
   put-cases [] y = λ m. inl (List·Memᴰ·eq-of-singleton m)
   put-cases (x ∷ l) y =

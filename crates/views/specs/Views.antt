@@ -19,10 +19,16 @@ module _ (z : Sizes) (es : List Entry) (c : ChunkNo) (used : ℕ) where
   Links k e [] = e .0 ≡ NONE
   Links k e (x ∷ l) = (e ≡ x) × (x .0 < used) × (k ≤ entryAt z es c x .key) × Links (entryAt z es c x .key + 1) (entryAt z es c x .next) l
 
-  -- the entry stands where its key belongs
-  unfoldable pub putIn : EntryNo → ℕ → List EntryNo → List EntryNo
-  putIn e k [] = e ∷ []
-  putIn e k (x ∷ l) = let on = x ∷ putIn e k l in pick (ltb (entryAt z es c x .key) k) on (e ∷ x ∷ l)
+-- an entry with the key k, put into a list of entries where its key belongs
+module _ (z : Sizes) (es : List Entry) (c : ChunkNo) (e : EntryNo) (k : ℕ) where
+  unfoldable pub putIn : List EntryNo → List EntryNo
+  putIn [] = e ∷ []
+  putIn (x ∷ l) = let on = x ∷ putIn l in pick (ltb (entryAt z es c x .key) k) on (e ∷ x ∷ l)
+
+  -- what stands first then, where a stood
+  unfoldable pub startOf : EntryNo → List EntryNo → EntryNo
+  startOf a [] = e
+  startOf a (x ∷ l) = pick (ltb (entryAt z es c x .key) k) a e
 
 module _ (z : Sizes) (cs : List Chunk) where
   -- the chain from c on is of these chunks, live ones, minimum keys ascending from k on
