@@ -3,3 +3,4 @@ pub mod Shapes
 pub mod Sames
 pub mod Writes
 pub mod Linking
+pub mod Applying

@@ -25,21 +25,10 @@ use Rattle.laws.specs.Counts.{Every}
 use Rattle.views.specs.Views.{Links, putIn, startOf, InRange}
 use Rattle.views.proofs.Rows.{chunk-put, entry-put}
 use Rattle.views.proofs.Entries.{links-length, links-view, links-put, start-kept, start-new, place-in, put-new, put-old, put-cases}
-use Rattle.facts.specs.Facts.{Limited, RowRight, SlotRight, ListRight, listed, Tabled, Same, EntryHeld, Tasked}
+use Rattle.facts.specs.Facts.{Limited, RowRight, SlotRight, ListRight, listed, Tabled, Same, Waits}
 use Rattle.facts.proofs.Numbers.{number-in, head-right}
 use Rattle.facts.proofs.Sames.{same-all, same-put, Quiet, Grown, tabled-kept, tasked-kept, list-quiet}
 use Rattle.facts.proofs.Writes.{Written, below, inside, same-chunk}
-
--- an entry that waits, and its place in a chunk's list that lacks its key
-pub record Waits (z : Sizes) (cs : List Chunk) (es : List Entry) (c : ChunkNo) (e before : EntryNo) (k : ℕ) : Type 0 where
-  pub numbered : c .0 < z .chunks
-  pub inUse : chunkAt cs c .status ≢ unused
-  pub notNew : chunkAt cs c .status ≢ new
-  pub used : e .0 < chunkAt cs c .used
-  pub keyed : entryAt z es c e .key ≡ k
-  pub lacks : Every (λ x. entryAt z es c x .key ≢ k) (listed z cs es c)
-  pub placed : before ≡ placeFrom z es c (z .entries) noEntry (chunkAt cs c .head) k
-  pub range : chunkAt cs c .status ≡ live → InRange z cs c k
 
 module _ (z : Sizes) (lim : Limited z) (d : Directory) (cs : List Chunk) (es : List Entry) (h : Tabled z d cs es)
     (c : ChunkNo) (e before : EntryNo) (k : ℕ) (w : Waits z cs es c e before k) where
@@ -200,10 +189,12 @@ module _ (z : Sizes) (lim : Limited z) (d : Directory) (cs : List Chunk) (es : L
     unfolding entries₁ entries₂
     after-sized = length-set entries₁ (row z c before) before-next ∙ length-set es (row z c e) e-next
 
-    after-written : Written z d cs es cs entries₂
+    pub after-written : Written z d cs es cs (set (set es (row z c e) (withNext (entryAt z es c e) (entryAt z es c before .next))) (row z c before) (withNext (entryAt z es c before) e))
+    unfolding entries₁ entries₂ e-next before-next
     after-written = link-by cs entries₂ (same-all cs) after-sized (λ f. refl) (λ f bf. h .lists f bf .row) after-key after-slot after-other (λ p. absurd (after-first p)) (λ x bx p q. after-next c x bx (λ _. p) (λ _. q)) (λ _. after-at) after-start
 
-    after-linked : List·Memᴰ e (listed z cs entries₂ c)
+    pub after-linked : List·Memᴰ e (listed z cs (set (set es (row z c e) (withNext (entryAt z es c e) (entryAt z es c before .next))) (row z c before) (withNext (entryAt z es c before) e)) c)
+    unfolding entries₁ entries₂ e-next before-next
     after-linked = link-linked cs entries₂ (same-all cs) after-sized (λ f. refl) (λ f bf. h .lists f bf .row) after-key after-slot after-other (λ p. absurd (after-first p)) (λ x bx p q. after-next c x bx (λ _. p) (λ _. q)) (λ _. after-at) after-start
 
   -- ---- at the head
@@ -285,8 +276,10 @@ module _ (z : Sizes) (lim : Limited z) (d : Directory) (cs : List Chunk) (es : L
     unfolding entries₃
     head-sized = length-set es (row z c e) to-head
 
-    head-written : Written z d cs es chunks₁ entries₃
+    pub head-written : Written z d cs es (set cs (c .0) (withHead (chunkAt cs c) e)) (set es (row z c e) (withNext (entryAt z es c e) (chunkAt cs c .head)))
+    unfolding chunks₁ entries₃ to-head
     head-written = link-by chunks₁ entries₃ head-same head-sized head-used head-row head-key head-slot head-other (λ _. head-at) (λ x bx p q. head-next c x bx (λ _. p)) (λ m. absurd (not-in m)) head-start
 
-    head-linked : List·Memᴰ e (listed z chunks₁ entries₃ c)
+    pub head-linked : List·Memᴰ e (listed z (set cs (c .0) (withHead (chunkAt cs c) e)) (set es (row z c e) (withNext (entryAt z es c e) (chunkAt cs c .head))) c)
+    unfolding chunks₁ entries₃ to-head
     head-linked = link-linked chunks₁ entries₃ head-same head-sized head-used head-row head-key head-slot head-other (λ _. head-at) (λ x bx p q. head-next c x bx (λ _. p)) (λ m. absurd (not-in m)) head-start

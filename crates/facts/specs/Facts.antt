@@ -13,9 +13,11 @@ use Rattle.rules.specs.declared.Chunk.{Chunk}
 use Rattle.rules.specs.declared.Entry.{Entry}
 use Rattle.rules.specs.declared.ChunkNo.{ChunkNo}
 use Rattle.rules.specs.declared.EntryNo.{EntryNo}
-use Rattle.rules.specs.Words.{pick, _and_, NONE, unused, live, new, retired, usesFunction, idle, toDrain, toCopy, toSwap, toRelease}
+use Rattle.rules.specs.declared.Write.{Write}
+use Rattle.rules.specs.declared.Write.the-variants as write
+use Rattle.rules.specs.Words.{pick, _and_, NONE, noEntry, unused, live, new, retired, usesFunction, idle, toDrain, toCopy, toSwap, toRelease}
 use Rattle.rules.specs.Tables.{Tables, idleTask, emptyChunk, emptyEntry, chunkAt, entryAt, task}
-use Rattle.rules.specs.Walks.{listFrom}
+use Rattle.rules.specs.Walks.{listFrom, placeFrom}
 use Rattle.rules.specs.Rebalance.{unusedCount}
 use Rattle.rules.specs.Shape.{numbers, heldAs, flagAs, fitsOperation, Hold, hold, stageList, liveCount}
 use Rattle.laws.specs.Counts.{Every}
@@ -143,6 +145,27 @@ pub record Tasked (z : Sizes) (cs : List Chunk) (es : List Entry) (t : Task) : T
   pub holds : t .stage ≢ 0 → Holds z t (holdAt (t .stage))
   pub chunk-of-key : t .chunk .0 < z .chunks → ChunkOfKey z cs (t .chunk) (t .key)
   pub entry : t .entry .0 < z .entries → EntryHeld z cs es (t .chunk) (t .entry) (t .key) (t .stage)
+
+-- an entry that waits, and its place in a chunk's list that lacks its key
+pub record Waits (z : Sizes) (cs : List Chunk) (es : List Entry) (c : ChunkNo) (e before : EntryNo) (k : ℕ) : Type 0 where
+  pub numbered : c .0 < z .chunks
+  pub inUse : chunkAt cs c .status ≢ unused
+  pub notNew : chunkAt cs c .status ≢ new
+  pub used : e .0 < chunkAt cs c .used
+  pub keyed : entryAt z es c e .key ≡ k
+  pub lacks : Every (λ x. entryAt z es c x .key ≢ k) (listed z cs es c)
+  pub placed : before ≡ placeFrom z es c (z .entries) noEntry (chunkAt cs c .head) k
+  pub range : chunkAt cs c .status ≡ live → InRange z cs c k
+
+-- what a step's write needs
+abbrev pub Allowed : Sizes → List Chunk → List Entry → Write → Type 0
+Allowed z cs es write.Nothing = Unit {0}
+Allowed z cs es (write.Slot c k) = (c .0 < z .chunks) × (chunkAt cs c .status ≢ unused) × (chunkAt cs c .used < z .entries)
+Allowed z cs es (write.Link c e before) = (k : ℕ) × Waits z cs es c e before k
+Allowed z cs es (write.Fresh h) = Unit {0}
+Allowed z cs es (write.Store h v) = Unit {0}
+Allowed z cs es (write.Delete h) = Unit {0}
+Allowed z cs es (write.Name c e h) = (c .0 < z .chunks) × (e .0 < chunkAt cs c .used) × (numbers (z .handles) (h .0) ≡ true)
 
 -- ---- all of it
 pub record Kept (z : Sizes) (s : Tables) : Type 0 where
