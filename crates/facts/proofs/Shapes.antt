@@ -35,6 +35,10 @@ unfolding liveCount
 live-count-le [] = omega arith
 live-count-le (x ∷ cs) = picked (λ (n : ℕ). n ≤ suc (length cs)) (eqb (x .status) live) (λ _. omega (arith, live-count-le cs)) (λ _. omega (arith, live-count-le cs))
 
+-- the chain has at most as many chunks as there are
+pub chain-short : (z : Sizes) (cs : List Chunk) (first : ChunkNo) → length cs ≡ z .chunks → (c : Chained z first cs) → length (first ∷ c .rest) ≤ z .chunks
+chain-short z cs first len c = rw (c .counted, ← len) (live-count-le cs)
+
 -- a stage that holds an entry holds a chunk
 rows-right : all (λ h. leb (h .chunk) 1 and leb (h .entry) (h .chunk)) stageList ≡ true
 unfolding all
@@ -99,7 +103,7 @@ module _ (z : Sizes) (lim : Limited z) (s : Tables) (kept : Kept z s) where
       c : Chained z (s .directory .first) (s .chunks)
       c = tables .chained
       short : length (s .directory .first ∷ c .rest) ≤ z .chunks
-      short = rw (c .counted, ← (tables .chunks-sized)) (live-count-le (s .chunks))
+      short = chain-short z (s .chunks) (s .directory .first) (tables .chunks-sized) c
 
   roles-right : (i : ℕ) → i < z .chunks → chunkFits z s (s .directory) i (chunk s (chunkNo i)) ≡ true
   roles-right i b =
