@@ -5,4 +5,5 @@ pub mod Sames
 pub mod Writes
 pub mod Linking
 pub mod Applying
+pub mod Going
 pub mod Stages
