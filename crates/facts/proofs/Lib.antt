@@ -7,3 +7,4 @@ pub mod Linking
 pub mod Applying
 pub mod Going
 pub mod Stages
+pub mod Ends
