@@ -8,3 +8,4 @@ pub mod Applying
 pub mod Going
 pub mod Stages
 pub mod Ends
+pub mod Tasks

@@ -19,7 +19,7 @@ throughout (suc n) p = let on = throughout n p in p n and on
 abbrev pub implies : Bool → Bool → Bool
 implies a b = pick a b true
 
-through : (p : ℕ → Bool) (m : ℕ) → throughout m p ≡ true → (n : ℕ) → n < m → p n ≡ true
+pub through : (p : ℕ → Bool) (m : ℕ) → throughout m p ≡ true → (n : ℕ) → n < m → p n ≡ true
 through p zero h n b = absurd (not-suc-le-zero b)
 through p (suc m) h n b = ⊎-elim (λ (e : n ≡ m). rw e (and-left (p m) _ h)) (λ lt. through p m (and-right (p m) _ h) n lt) (eq-or-lt-of-le (le-of-suc-le-suc b))
 
