@@ -9,3 +9,4 @@ pub mod Going
 pub mod Stages
 pub mod Ends
 pub mod Tasks
+pub mod Fresh
