@@ -43,7 +43,7 @@ module _ (z : Sizes) (lim : Limited z) (d : Directory) (cs : List Chunk) (es : L
   not-linked x m p = w .lacks x m (rw p (w .keyed))
 
   -- the tables with the entry linked: what the two ways of linking have in common
-  module _ (cs′ : List Chunk) (es′ : List Entry) (same : Same cs cs′) (len : length es′ ≡ length es)
+  module _ (cs′ : List Chunk) (es′ : List Entry) (same : Same cs cs′) (frozen : (f : ChunkNo) → chunkAt cs′ f .frozen ≡ chunkAt cs f .frozen) (len : length es′ ≡ length es)
       (used : (f : ChunkNo) → chunkAt cs′ f .used ≡ chunkAt cs f .used)
       (rows : (f : ChunkNo) → f .0 < z .chunks → RowRight z (chunkAt cs′ f))
       (keys : (f : ChunkNo) (x : EntryNo) → x .0 < z .entries → entryAt z es′ f x .key ≡ entryAt z es f x .key)
@@ -98,7 +98,7 @@ module _ (z : Sizes) (lim : Limited z) (d : Directory) (cs : List Chunk) (es : L
     unfolding put l
     link-by =
         record {
-          tables = tabled-kept z cs cs′ same es es′ d h len (λ f b. record { row = rows f b; slot = λ x bx. rw (used f) (slots f b x bx); links = listed-links f b }) so;
+          tables = tabled-kept z cs cs′ same es es′ frozen d h len (λ f b. record { row = rows f b; slot = λ x bx. rw (used f) (slots f b x bx); links = listed-links f b }) so;
           tasks = λ t r. tasked-kept z cs cs′ same es es′ t r (λ f b. rw (used f) (le-refl _)) (λ f x b u. keys f x (le-trans u (h .lists f b .row .used))) members;
         }
       where
@@ -191,11 +191,11 @@ module _ (z : Sizes) (lim : Limited z) (d : Directory) (cs : List Chunk) (es : L
 
     pub after-written : Written z d cs es cs (set (set es (row z c e) (withNext (entryAt z es c e) (entryAt z es c before .next))) (row z c before) (withNext (entryAt z es c before) e))
     unfolding entries₁ entries₂ e-next before-next
-    after-written = link-by cs entries₂ (same-all cs) after-sized (λ f. refl) (λ f bf. h .lists f bf .row) after-key after-slot after-other (λ p. absurd (after-first p)) (λ x bx p q. after-next c x bx (λ _. p) (λ _. q)) (λ _. after-at) after-start
+    after-written = link-by cs entries₂ (same-all cs) (λ f. refl) after-sized (λ f. refl) (λ f bf. h .lists f bf .row) after-key after-slot after-other (λ p. absurd (after-first p)) (λ x bx p q. after-next c x bx (λ _. p) (λ _. q)) (λ _. after-at) after-start
 
     pub after-linked : List·Memᴰ e (listed z cs (set (set es (row z c e) (withNext (entryAt z es c e) (entryAt z es c before .next))) (row z c before) (withNext (entryAt z es c before) e)) c)
     unfolding entries₁ entries₂ e-next before-next
-    after-linked = link-linked cs entries₂ (same-all cs) after-sized (λ f. refl) (λ f bf. h .lists f bf .row) after-key after-slot after-other (λ p. absurd (after-first p)) (λ x bx p q. after-next c x bx (λ _. p) (λ _. q)) (λ _. after-at) after-start
+    after-linked = link-linked cs entries₂ (same-all cs) (λ f. refl) after-sized (λ f. refl) (λ f bf. h .lists f bf .row) after-key after-slot after-other (λ p. absurd (after-first p)) (λ x bx p q. after-next c x bx (λ _. p) (λ _. q)) (λ _. after-at) after-start
 
   -- ---- at the head
   module _ (b : z .entries ≤ before .0) where
@@ -219,7 +219,11 @@ module _ (z : Sizes) (lim : Limited z) (d : Directory) (cs : List Chunk) (es : L
 
     head-same : Same cs chunks₁
     unfolding chunks₁
-    head-same = same-put cs c (withHead (chunkAt cs c) e) many refl refl refl refl
+    head-same = same-put cs c (withHead (chunkAt cs c) e) many refl refl refl
+
+    head-frozen : (f : ChunkNo) → chunkAt chunks₁ f .frozen ≡ chunkAt cs f .frozen
+    unfolding chunks₁
+    head-frozen f = chunk-put cs c (withHead (chunkAt cs c) e) f (λ y. y .frozen ≡ chunkAt cs f .frozen) many (λ p. rw p refl) (λ _. refl)
 
     head-used : (f : ChunkNo) → chunkAt chunks₁ f .used ≡ chunkAt cs f .used
     unfolding chunks₁
@@ -278,8 +282,8 @@ module _ (z : Sizes) (lim : Limited z) (d : Directory) (cs : List Chunk) (es : L
 
     pub head-written : Written z d cs es (set cs (c .0) (withHead (chunkAt cs c) e)) (set es (row z c e) (withNext (entryAt z es c e) (chunkAt cs c .head)))
     unfolding chunks₁ entries₃ to-head
-    head-written = link-by chunks₁ entries₃ head-same head-sized head-used head-row head-key head-slot head-other (λ _. head-at) (λ x bx p q. head-next c x bx (λ _. p)) (λ m. absurd (not-in m)) head-start
+    head-written = link-by chunks₁ entries₃ head-same head-frozen head-sized head-used head-row head-key head-slot head-other (λ _. head-at) (λ x bx p q. head-next c x bx (λ _. p)) (λ m. absurd (not-in m)) head-start
 
     pub head-linked : List·Memᴰ e (listed z (set cs (c .0) (withHead (chunkAt cs c) e)) (set es (row z c e) (withNext (entryAt z es c e) (chunkAt cs c .head))) c)
     unfolding chunks₁ entries₃ to-head
-    head-linked = link-linked chunks₁ entries₃ head-same head-sized head-used head-row head-key head-slot head-other (λ _. head-at) (λ x bx p q. head-next c x bx (λ _. p)) (λ m. absurd (not-in m)) head-start
+    head-linked = link-linked chunks₁ entries₃ head-same head-frozen head-sized head-used head-row head-key head-slot head-other (λ _. head-at) (λ x bx p q. head-next c x bx (λ _. p)) (λ m. absurd (not-in m)) head-start

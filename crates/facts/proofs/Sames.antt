@@ -27,16 +27,15 @@ use Rattle.views.proofs.Chunks.{chain-frame}
 use Rattle.facts.specs.Facts.{Limited, RowRight, SlotRight, ListRight, listed, Chained, KeyInRange, Roles, Made, Rebalancing, Tabled, Same, Holds, holdAt, ChunkOfKey, EntryHeld, Tasked, Kept}
 
 pub same-all : (cs : List Chunk) → Same cs cs
-same-all cs = record { sized = refl; live = refl; unused = refl; status = λ c. refl; frozen = λ c. refl; min = λ c. refl; next = λ c. refl }
+same-all cs = record { sized = refl; live = refl; unused = refl; status = λ c. refl; min = λ c. refl; next = λ c. refl }
 
-pub same-put : (cs : List Chunk) (d : ChunkNo) (x : Chunk) → d .0 < length cs → x .status ≡ chunkAt cs d .status → x .frozen ≡ chunkAt cs d .frozen → x .min ≡ chunkAt cs d .min → x .next ≡ chunkAt cs d .next → Same cs (set cs (d .0) x)
-same-put cs d x b p q r t =
+pub same-put : (cs : List Chunk) (d : ChunkNo) (x : Chunk) → d .0 < length cs → x .status ≡ chunkAt cs d .status → x .min ≡ chunkAt cs d .min → x .next ≡ chunkAt cs d .next → Same cs (set cs (d .0) x)
+same-put cs d x b p r t =
     record {
       sized = length-set cs (d .0) x;
       live = omega (arith, live-set cs d x b, ap (λ (n : ℕ). pick {A = ℕ} (eqb n live) 1 0) p);
       unused = omega (arith, unused-set cs d x b, ap (λ (n : ℕ). pick {A = ℕ} (eqb n unused) 1 0) p);
       status = λ c. chunk-put cs d x c (λ y. y .status ≡ chunkAt cs c .status) b (λ e. rw e p) (λ ne. refl);
-      frozen = λ c. chunk-put cs d x c (λ y. y .frozen ≡ chunkAt cs c .frozen) b (λ e. rw e q) (λ ne. refl);
       min = λ c. chunk-put cs d x c (λ y. y .min ≡ chunkAt cs c .min) b (λ e. rw e r) (λ ne. refl);
       next = λ c. chunk-put cs d x c (λ y. y .next ≡ chunkAt cs c .next) b (λ e. rw e t) (λ ne. refl);
     }
@@ -45,7 +44,7 @@ module _ (z : Sizes) (cs cs′ : List Chunk) (same : Same cs cs′) where
   pub range-kept : (c : ChunkNo) (k : ℕ) → InRange z cs c k → InRange z cs′ c k
   range-kept c k h = record { from = rw (same .min c) (h .from); to = rw (same .next c, same .min (chunkAt cs c .next)) (h .to) }
 
-  chained-kept : (first : ChunkNo) → Chained z first cs → Chained z first cs′
+  pub chained-kept : (first : ChunkNo) → Chained z first cs → Chained z first cs′
   chained-kept first h =
       record {
         rest = h .rest;
@@ -55,17 +54,21 @@ module _ (z : Sizes) (cs cs′ : List Chunk) (same : Same cs cs′) where
         every = λ c b l. h .every c b (sym (same .status c) ∙ l);
       }
 
-  roles-kept : (d : Directory) (c : ChunkNo) → Roles d (c .0) (chunkAt cs c) → Roles d (c .0) (chunkAt cs′ c)
-  roles-kept d c h =
+  -- the frozen marks are as they were
+  abbrev pub Frozen : Type 0
+  Frozen = (c : ChunkNo) → chunkAt cs′ c .frozen ≡ chunkAt cs c .frozen
+
+  roles-kept : Frozen → (d : Directory) (c : ChunkNo) → Roles d (c .0) (chunkAt cs c) → Roles d (c .0) (chunkAt cs′ c)
+  roles-kept frozen d c h =
       record {
-        old = λ e. (same .frozen c ∙ h .old e .0, same .status c ∙ h .old e .1);
-        new = λ ne o. (same .frozen c ∙ h .new ne o .0, same .status c ∙ h .new ne o .1);
-        other = λ a b e. (same .frozen c ∙ h .other a b e .0, rw (same .status c) (h .other a b e .1));
+        old = λ e. (frozen c ∙ h .old e .0, same .status c ∙ h .old e .1);
+        new = λ ne o. (frozen c ∙ h .new ne o .0, same .status c ∙ h .new ne o .1);
+        other = λ a b e. (frozen c ∙ h .other a b e .0, rw (same .status c) (h .other a b e .1));
       }
 
-  rebalancing-kept : (d : Directory) → Rebalancing z d cs → Rebalancing z d cs′
-  rebalancing-kept d h =
-      record { known = h .known; none = h .none; unmade = h .unmade; old = h .old; room = λ a b. rw (same .unused) (h .room a b); new = h .new; second = h .second; apart = h .apart; old-new = h .old-new; old-second = h .old-second; roles = λ c b. roles-kept d c (h .roles c b) }
+  rebalancing-kept : Frozen → (d : Directory) → Rebalancing z d cs → Rebalancing z d cs′
+  rebalancing-kept frozen d h =
+      record { known = h .known; none = h .none; unmade = h .unmade; old = h .old; room = λ a b. rw (same .unused) (h .room a b); new = h .new; second = h .second; apart = h .apart; old-new = h .old-new; old-second = h .old-second; roles = λ c b. roles-kept frozen d c (h .roles c b) }
 
   module _ (es es′ : List Entry) where
     -- the chunk's list and its keys are as they were
@@ -74,7 +77,7 @@ module _ (z : Sizes) (cs cs′ : List Chunk) (same : Same cs cs′) where
       pub keys : Every (λ e. entryAt z es′ c e .key ≡ entryAt z es c e .key) (listed z cs es c)
 
     -- what held of each key of the list holds still
-    quiet-keys : (P : ℕ → Type 0) (c : ChunkNo) → Quiet c → Every (λ e. P (entryAt z es c e .key)) (listed z cs es c) → Every (λ e. P (entryAt z es′ c e .key)) (listed z cs′ es′ c)
+    pub quiet-keys : (P : ℕ → Type 0) (c : ChunkNo) → Quiet c → Every (λ e. P (entryAt z es c e .key)) (listed z cs es c) → Every (λ e. P (entryAt z es′ c e .key)) (listed z cs′ es′ c)
     quiet-keys P c q h e m = rw (q .keys e m′) (h e m′)
       where
         m′ : List·Memᴰ e (listed z cs es c)
@@ -84,16 +87,16 @@ module _ (z : Sizes) (cs cs′ : List Chunk) (same : Same cs cs′) where
     abbrev pub Grown : ChunkNo → Type 0
     Grown c = (chunkAt cs c .status ≢ new) × (chunkAt cs c .status ≡ live → Every (λ e. InRange z cs c (entryAt z es′ c e .key)) (listed z cs′ es′ c))
 
-    pub tabled-kept : (d : Directory) → Tabled z d cs es → length es′ ≡ length es → ((c : ChunkNo) → c .0 < z .chunks → ListRight z cs′ es′ c) →
+    pub tabled-kept : Frozen → (d : Directory) → Tabled z d cs es → length es′ ≡ length es → ((c : ChunkNo) → c .0 < z .chunks → ListRight z cs′ es′ c) →
         ((c : ChunkNo) → c .0 < z .chunks → Quiet c ⊎ Grown c) → Tabled z d cs′ es′
-    tabled-kept d h len lists lists-so =
+    tabled-kept frozen d h len lists lists-so =
         record {
           chunks-sized = same .sized ∙ h .chunks-sized;
           entries-sized = len ∙ h .entries-sized;
           lists = lists;
           chained = chained-kept (d .first) (h .chained);
           key-in-range = in-range;
-          rebalancing = rebalancing-kept d (h .rebalancing);
+          rebalancing = rebalancing-kept frozen d (h .rebalancing);
           made = λ e. made-kept e (h .made e);
         }
       where

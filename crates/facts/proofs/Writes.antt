@@ -76,7 +76,7 @@ module _ (z : Sizes) (lim : Limited z) (d : Directory) (cs : List Chunk) (es : L
     unfolding named
     name-written =
         record {
-          tables = tabled-kept z cs cs (same-all cs) es named d h (length-set es _ _) (λ f bf. record { row = h .lists f bf .row; slot = named-slot f bf; links = named-quiet f bf .1 }) (λ f bf. inl (record { list = named-quiet f bf .0; keys = λ x m. named-row f x (inside f bf x m) .0 }));
+          tables = tabled-kept z cs cs (same-all cs) es named (λ f. refl) d h (length-set es _ _) (λ f bf. record { row = h .lists f bf .row; slot = named-slot f bf; links = named-quiet f bf .1 }) (λ f bf. inl (record { list = named-quiet f bf .0; keys = λ x m. named-row f x (inside f bf x m) .0 }));
           tasks = λ t r. tasked-kept z cs cs (same-all cs) es named t r (λ f bf. le-refl _) (λ f x bf ux. named-row f x (le-trans ux (h .lists f bf .row .used)) .0) (λ f x bf m. rw (named-quiet f bf .0) m);
         }
 
@@ -102,7 +102,7 @@ module _ (z : Sizes) (lim : Limited z) (d : Directory) (cs : List Chunk) (es : L
 
     slot-same : Same cs chunks′
     unfolding taken chunks′
-    slot-same = same-put cs c taken many refl refl refl refl
+    slot-same = same-put cs c taken many refl refl refl
 
     slot-head : (f : ChunkNo) → chunkAt chunks′ f .head ≡ chunkAt cs f .head
     unfolding taken chunks′
@@ -162,7 +162,7 @@ module _ (z : Sizes) (lim : Limited z) (d : Directory) (cs : List Chunk) (es : L
     unfolding taken chunks′ entries′ filled slot
     slot-written =
         record {
-          tables = tabled-kept z cs chunks′ slot-same es entries′ d h (length-set es _ _) (λ f bf. record { row = slot-chunk f bf; slot = slot-slot f bf; links = slot-quiet f bf .1 }) (λ f bf. inl (record { list = slot-quiet f bf .0; keys = λ x m. ap (λ (y : Entry). y .key) (slot-row f x (below f bf x m) (inside f bf x m)) }));
+          tables = tabled-kept z cs chunks′ slot-same es entries′ (λ f. chunk-put cs c taken f (λ y. y .frozen ≡ chunkAt cs f .frozen) many (λ p. rw p refl) (λ _. refl)) d h (length-set es _ _) (λ f bf. record { row = slot-chunk f bf; slot = slot-slot f bf; links = slot-quiet f bf .1 }) (λ f bf. inl (record { list = slot-quiet f bf .0; keys = λ x m. ap (λ (y : Entry). y .key) (slot-row f x (below f bf x m) (inside f bf x m)) }));
           tasks = λ t r. tasked-kept z cs chunks′ slot-same es entries′ t r (λ f bf. slot-used f (λ n. chunkAt cs f .used ≤ n) (λ p. rw p (omega arith)) (λ _. le-refl _)) (λ f x bf ux. ap (λ (y : Entry). y .key) (slot-row f x ux (le-trans ux (h .lists f bf .row .used)))) (λ f x bf m. rw (slot-quiet f bf .0) m);
         }
 

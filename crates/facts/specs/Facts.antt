@@ -23,9 +23,10 @@ use Rattle.rules.specs.Shape.{numbers, heldAs, flagAs, fitsOperation, Hold, hol
 use Rattle.laws.specs.Counts.{Every}
 use Rattle.views.specs.Views.{Links, Chain, InRange}
 
--- sizes for which none is no number of a row, and there is a first chunk
+-- sizes for which none is no number of a row, there is a first chunk, and half of a full chunk is an entry at least
 pub record Limited (z : Sizes) : Type 0 where
   pub some : 1 ≤ z .chunks
+  pub two : 2 ≤ z .entries
   pub chunks : z .chunks ≤ NONE
   pub entries : z .entries ≤ NONE
   pub handles : z .handles ≤ NONE
@@ -104,13 +105,12 @@ pub record Tabled (z : Sizes) (d : Directory) (cs : List Chunk) (es : List Entry
   pub rebalancing : Rebalancing z d cs
   pub made : d .stage ≡ toSwap → Made z d cs es
 
--- ---- what a step leaves in every chunk's row
+-- ---- what a step and begin leave in every chunk's row
 pub record Same (cs cs′ : List Chunk) : Type 0 where
   pub sized : length cs′ ≡ length cs
   pub live : liveCount cs′ ≡ liveCount cs
   pub unused : unusedCount cs′ ≡ unusedCount cs
   pub status : (c : ChunkNo) → chunkAt cs′ c .status ≡ chunkAt cs c .status
-  pub frozen : (c : ChunkNo) → chunkAt cs′ c .frozen ≡ chunkAt cs c .frozen
   pub min : (c : ChunkNo) → chunkAt cs′ c .min ≡ chunkAt cs c .min
   pub next : (c : ChunkNo) → chunkAt cs′ c .next ≡ chunkAt cs c .next
 
