@@ -58,6 +58,19 @@ module _ (z : Sizes) (lim : Limited z) (s : Tables) (h : Tabled z (s .directory)
   pub idle-right : (cs : List Chunk) (es : List Entry) → Tasked z cs es idleTask
   idle-right cs es = record { idle = λ _. refl; holds = λ ne. absurd (ne refl); chunk-of-key = no-chunk _; entry = no-entry _ }
 
+  -- locate gives a live chunk whose range has the key
+  pub located : (k : ℕ) → (locate z s k .0 < z .chunks) × ((chunk s (locate z s k) .status ≡ live) × InRange z (s .chunks) (locate z s k) k)
+  located k = (at .0, (at .1, found .1))
+    where
+      c : Chained z (s .directory .first) (s .chunks)
+      c = h .chained
+      short : length (s .directory .first ∷ c .rest) ≤ z .chunks
+      short = chain-short z (s .chunks) (s .directory .first) (h .chunks-sized) c
+      found : List·Memᴰ (locate z s k) (s .directory .first ∷ c .rest) × InRange z (s .chunks) (locate z s k) k
+      found = chain-locate z (s .chunks) (lim .chunks) (z .chunks) 0 k (s .directory .first) (s .directory .first) (c .rest) short (c .chain) (rw (c .from) (omega arith))
+      at : (locate z s k .0 < z .chunks) × (chunk s (locate z s k) .status ≡ live)
+      at = chain-live z (s .chunks) 0 (s .directory .first) (s .directory .first ∷ c .rest) (c .chain) (locate z s k) (found .0)
+
   module _ (t : Task) (r : Tasked z (s .chunks) (s .entries) t) where
     -- a task that has finished, or starts again
     pub finished : (w : Write) (a : Report) → Allowed z (s .chunks) (s .entries) w → Fine z s (Stages.finishes w a)
@@ -101,19 +114,6 @@ module _ (z : Sizes) (lim : Limited z) (s : Tables) (h : Tabled z (s .directory)
       where
         x : EntryHeld z (s .chunks) (s .entries) (t .chunk) (t .entry) (t .key) (t .stage)
         x = r .entry b
-
-    -- ---- what the walks give
-    pub located : (k : ℕ) → (locate z s k .0 < z .chunks) × ((chunk s (locate z s k) .status ≡ live) × InRange z (s .chunks) (locate z s k) k)
-    located k = (at .0, (at .1, found .1))
-      where
-        c : Chained z (s .directory .first) (s .chunks)
-        c = h .chained
-        short : length (s .directory .first ∷ c .rest) ≤ z .chunks
-        short = chain-short z (s .chunks) (s .directory .first) (h .chunks-sized) c
-        found : List·Memᴰ (locate z s k) (s .directory .first ∷ c .rest) × InRange z (s .chunks) (locate z s k) k
-        found = chain-locate z (s .chunks) (lim .chunks) (z .chunks) 0 k (s .directory .first) (s .directory .first) (c .rest) short (c .chain) (rw (c .from) (omega arith))
-        at : (locate z s k .0 < z .chunks) × (chunk s (locate z s k) .status ≡ live)
-        at = chain-live z (s .chunks) 0 (s .directory .first) (s .directory .first ∷ c .rest) (c .chain) (locate z s k) (found .0)
 
     module _ (c : ChunkNo) (b : c .0 < z .chunks) where
       links : Links z (s .entries) c (chunk s c .used) 0 (chunk s c .head) (listed z (s .chunks) (s .entries) c)

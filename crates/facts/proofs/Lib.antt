@@ -10,3 +10,4 @@ pub mod Stages
 pub mod Ends
 pub mod Tasks
 pub mod Fresh
+pub mod Beginning

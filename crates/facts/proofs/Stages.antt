@@ -45,13 +45,13 @@ module _ (z : Sizes) (lim : Limited z) (s : Tables) (h : Tabled z (s .directory)
   locates-fine (inl e) =
       let H = Going.holds-at z lim s h t r 1 e (omega arith) in
       rw e (Going.going z lim s h t r 2 (locate z s (t .key)) noEntry (t .old) noHandle 0 0 (omega arith)
-      (record { fits = Going.fit z lim s h t r 1 2 (λ op. true) refl e (omega arith) refl; function = H .function; chunk = lt-ltb _ _ (Going.located z lim s h t r (t .key) .0); entry = refl; old = H .old; new = refl; published = refl; swapped = refl })
-      (λ _. inr (Going.located z lim s h t r (t .key) .1)) (Going.no-entry z lim s h _))
+      (record { fits = Going.fit z lim s h t r 1 2 (λ op. true) refl e (omega arith) refl; function = H .function; chunk = lt-ltb _ _ (Going.located z lim s h (t .key) .0); entry = refl; old = H .old; new = refl; published = refl; swapped = refl })
+      (λ _. inr (Going.located z lim s h (t .key) .1)) (Going.no-entry z lim s h _))
   locates-fine (inr e) =
       let H = Going.holds-at z lim s h t r 16 e (omega arith) in
       rw e (Going.going z lim s h t r 17 (locate z s (t .key)) noEntry (t .old) noHandle 0 0 (omega arith)
-      (record { fits = Going.fit z lim s h t r 16 17 (λ op. true) refl e (omega arith) refl; function = H .function; chunk = lt-ltb _ _ (Going.located z lim s h t r (t .key) .0); entry = refl; old = H .old; new = refl; published = refl; swapped = refl })
-      (λ _. inr (Going.located z lim s h t r (t .key) .1)) (Going.no-entry z lim s h _))
+      (record { fits = Going.fit z lim s h t r 16 17 (λ op. true) refl e (omega arith) refl; function = H .function; chunk = lt-ltb _ _ (Going.located z lim s h (t .key) .0); entry = refl; old = H .old; new = refl; published = refl; swapped = refl })
+      (λ _. inr (Going.located z lim s h (t .key) .1)) (Going.no-entry z lim s h _))
 
   -- ---- 2 find
   pub finds-fine : t .stage ≡ 2 → Fine z s (Stages.finds z s t)
