@@ -11,3 +11,4 @@ pub mod Ends
 pub mod Tasks
 pub mod Fresh
 pub mod Beginning
+pub mod Putting

@@ -1,7 +1,7 @@
 -- Laws of the chain of live chunks: what the walks along it find, and how a write changes it.
 use Prim.Native.Nat.{ℕ, zero, suc, _+_, _≤_, _<_, suc-le-suc, zero-le}
 use mathlib.Core.Path.{_≡_, refl, sym, ap, _∙_, subst}
-use mathlib.Core.Logic.{_⊎_, inl, inr, ⊎-elim, _≢_}
+use mathlib.Core.Logic.{_⊎_, inl, inr, ⊎-elim, ⊎-map, _≢_}
 use mathlib.Core.Bool.{Bool, true, false}
 use mathlib.Core.List.{List, [], _∷_, _++_, List·Memᴰ, List·Memᴰ·head, List·Memᴰ·tail, List·Memᴰ·not-nil, List·Memᴰ·cases-cons, Memᴰ·cast}
 use native.Mathlib.Nat.{le-of-suc-le-suc, not-suc-le-zero, le-trans, le-refl, add-zero, add-suc, suc-add}
@@ -40,6 +40,19 @@ module _ (z : Sizes) (cs : List Chunk) where
     where
       above : (x : ChunkNo) → List·Memᴰ x l → y ≡ x → ⊥
       above x m q = omega (arith, chain-above _ _ l (h .4) x m, ap (λ (c : ChunkNo). chunkAt cs c .min) q)
+
+  -- after a chunk of the chain comes another, or none
+  pub chain-next : (k : ℕ) (c x : ChunkNo) (l : List ChunkNo) → Chain z cs k c l → List·Memᴰ x l → (chunkAt cs x .next .0 ≡ NONE) ⊎ List·Memᴰ (chunkAt cs x .next) l
+  unfolding Chain
+  chain-next k c x [] h m = absurd (List·Memᴰ·not-nil m)
+  chain-next k c x (y ∷ l) h m = ⊎-elim (λ (p : x ≡ y). rw p (first l refl)) (λ n. ⊎-map (λ e. e) (λ o. List·Memᴰ·tail o) (chain-next _ _ x l (h .4) n)) (List·Memᴰ·cases-cons m)
+    where
+      first : (r : List ChunkNo) → r ≡ l → (chunkAt cs y .next .0 ≡ NONE) ⊎ List·Memᴰ (chunkAt cs y .next) (y ∷ l)
+      first [] e = inl (rw (← e) at (h .4))
+      first (v ∷ r) e = inr (List·Memᴰ·tail {xs = l} (rw (← e) (List·Memᴰ·head (ahead .0))))
+        where
+          ahead : Chain z cs (chunkAt cs y .min + 1) (chunkAt cs y .next) (v ∷ r)
+          ahead = rw (← e) at (h .4)
 
   module _ (sized : z .chunks ≤ NONE) where
     pub chain-view : (fuel k : ℕ) (c : ChunkNo) (l : List ChunkNo) → length l ≤ fuel → Chain z cs k c l → chainFrom z cs fuel c ≡ l
