@@ -1,3 +1,4 @@
 pub mod Rows
 pub mod Entries
 pub mod Chunks
+pub mod Copies
