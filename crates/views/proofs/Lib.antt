@@ -2,3 +2,4 @@ pub mod Rows
 pub mod Entries
 pub mod Chunks
 pub mod Copies
+pub mod Naming
