@@ -12,3 +12,4 @@ pub mod Tasks
 pub mod Fresh
 pub mod Beginning
 pub mod Putting
+pub mod Releasing
