@@ -13,3 +13,4 @@ pub mod Fresh
 pub mod Beginning
 pub mod Putting
 pub mod Releasing
+pub mod Making
