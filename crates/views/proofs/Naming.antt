@@ -8,7 +8,7 @@ use native.Mathlib.Nat.{not-suc-le-zero, le-of-suc-le-suc, le-trans, le-refl, ad
 use native.Mathlib.Numerals.{add-one}
 use native.Mathlib.Omega.{arith}
 use lib.Dec.{eqb, ltb}
-use lib.ListN.{length, getD, take, drop}
+use lib.ListN.{length, getD, take, drop, length-drop}
 use lib.Seq.{getD-drop}
 use borrow.Author.Tests.{lt-ltb, le-ltb, ltb-true, eqb-true}
 use Rattle.rules.specs.declared.Sizes.{Sizes}
@@ -117,3 +117,32 @@ unused-from (x ∷ cs) n b = by-test (eqb (x .status) unused) here (λ t. there 
     Later = (i : ℕ) × (unusedFrom cs (n + 1) .0 ≡ n + 1 + i) × (i < length cs) × (getD cs i emptyChunk .status ≡ unused) × (unusedCount cs ≤ unusedCount (drop (suc i) cs) + 1)
     there : eqb (x .status) unused ≡ false → Later → Found (pick (eqb (x .status) unused) (unusedCount cs + 1) (unusedCount cs)) (pick (eqb (x .status) unused) (chunkNo n) (unusedFrom cs (n + 1)))
     there t o = rw t (suc (o .0), omega (arith, o .1), omega (arith, o .2), o .3, o .4)
+
+-- ---- bounds on ascending keys
+pub rising-from : (k j : ℕ) (l : List Entry) → Rising k l → Every (λ x. j ≤ x .key) l → Rising j l
+unfolding Rising
+rising-from k j [] r all = tt
+rising-from k j (x ∷ l) r all = (all x (List·Memᴰ·head refl), r .1)
+
+pub rising-grows : (k n : ℕ) (l : List Entry) → n < length l → Rising k l → k + n ≤ getD l n emptyEntry .key
+unfolding Rising
+rising-grows k n [] b r = absurd (not-suc-le-zero b)
+rising-grows k zero (x ∷ l) b r = omega (arith, r .0)
+rising-grows k (suc n) (x ∷ l) b r = omega (arith, r .0, rising-grows (x .key + 1) n l (le-of-suc-le-suc b) (r .1))
+
+-- ---- the two lowest unused chunks
+pub unused-first : (cs : List Chunk) → 1 ≤ unusedCount cs →
+    (unusedFrom cs 0 .0 < length cs) × (chunkAt cs (unusedFrom cs 0) .status ≡ unused) × (unusedCount cs ≤ unusedCount (drop (unusedFrom cs 0 .0 + 1) cs) + 1)
+unused-first cs b = go (unused-from cs 0 b)
+  where
+    go : (i : ℕ) × (unusedFrom cs 0 .0 ≡ 0 + i) × (i < length cs) × (getD cs i emptyChunk .status ≡ unused) × (unusedCount cs ≤ unusedCount (drop (suc i) cs) + 1) →
+        (unusedFrom cs 0 .0 < length cs) × (chunkAt cs (unusedFrom cs 0) .status ≡ unused) × (unusedCount cs ≤ unusedCount (drop (unusedFrom cs 0 .0 + 1) cs) + 1)
+    go f = rw (f .1, zero-add (f .0), add-one (f .0)) (f .2, f .3, f .4)
+
+pub unused-next : (cs : List Chunk) (m : ℕ) → 1 ≤ unusedCount (drop m cs) →
+    (unusedFrom (drop m cs) m .0 < length cs) × (chunkAt cs (unusedFrom (drop m cs) m) .status ≡ unused) × (m ≤ unusedFrom (drop m cs) m .0)
+unused-next cs m b = go (unused-from (drop m cs) m b)
+  where
+    go : (i : ℕ) × (unusedFrom (drop m cs) m .0 ≡ m + i) × (i < length (drop m cs)) × (getD (drop m cs) i emptyChunk .status ≡ unused) × (unusedCount (drop m cs) ≤ unusedCount (drop (suc i) (drop m cs)) + 1) →
+        (unusedFrom (drop m cs) m .0 < length cs) × (chunkAt cs (unusedFrom (drop m cs) m) .status ≡ unused) × (m ≤ unusedFrom (drop m cs) m .0)
+    go f = rw (f .1) (omega (arith, f .2, length-drop m cs), rw (← (getD-drop m cs (f .0) emptyChunk)) (f .3), omega arith)
