@@ -14,3 +14,4 @@ pub mod Beginning
 pub mod Putting
 pub mod Releasing
 pub mod Making
+pub mod Copying
