@@ -186,3 +186,116 @@ module _ (z : Sizes) (lim : Limited z) (s : Tables) (kept : Kept z s) (copying :
             second-keys = λ i. absurd (out i);
             second-from = λ i. absurd (out i);
           }
+
+  -- ---- to two chunks
+  module _ (over : z .entries / 2 < length l) where
+    abbrev half : ℕ
+    half = (length l + 1) / 2
+
+    abbrev least : ℕ
+    least = getD l half emptyEntry .key
+
+    inner : half < length l
+    inner = omega (arith, lim .two)
+
+    abbrev l₁ : List Entry
+    l₁ = take half l
+
+    abbrev l₂ : List Entry
+    l₂ = drop half l
+
+    l₁-short : length l₁ ≤ z .entries
+    l₁-short = rw length-take (le-trans (min-le-left half (length l)) (le-trans (omega (arith, inner)) l-short))
+
+    l₂-short : length l₂ ≤ z .entries
+    l₂-short = rw length-drop (omega (arith, l-short))
+
+    l₂-rising : Rising 0 l₂
+    l₂-rising = rising-from least 0 l₂ (rising-drop 0 half l inner l-rising) (λ x m. omega arith)
+
+    abbrev cs₁ : List Chunk
+    cs₁ = set (s .chunks) (a .0) (newRow (chunk s old .min) l₁)
+
+    abbrev es₁ : List Entry
+    es₁ = filled z a 0 l₁ (s .entries)
+
+    abbrev cs₂ : List Chunk
+    cs₂ = set cs₁ (b .0) (newRow least l₂)
+
+    abbrev es₂ : List Entry
+    es₂ = filled z b 0 l₂ es₁
+
+    h₁ : Every (λ x. numbers (z .handles) (x .handle .0) ≡ true) l₁
+    h₁ = every-take (λ x. numbers (z .handles) (x .handle .0) ≡ true) half l l-handles
+
+    h₂ : Every (λ x. numbers (z .handles) (x .handle .0) ≡ true) l₂
+    h₂ = every-drop (λ x. numbers (z .handles) (x .handle .0) ≡ true) half l l-handles
+
+    r₁ : Rising 0 l₁
+    r₁ = rising-take 0 half l l-rising
+
+    base₁ : Based z (s .directory .first) cs₁ es₁
+    base₁ = based-made z lim (s .directory .first) (s .chunks) (s .entries) base a (chunk s old .min) l₁ (a-free .0) (a-free .1) l₁-short r₁ h₁
+
+    same₁ : (f : ChunkNo) → f ≢ a → chunkAt cs₁ f ≡ chunk s f
+    same₁ = made-other z lim (s .directory .first) (s .chunks) (s .entries) base a (chunk s old .min) l₁ (a-free .0) (a-free .1) l₁-short r₁ h₁
+
+    here₁ : chunkAt cs₁ a ≡ newRow (chunk s old .min) l₁
+    here₁ = made-here z lim (s .directory .first) (s .chunks) (s .entries) base a (chunk s old .min) l₁ (a-free .0) (a-free .1) l₁-short r₁ h₁
+
+    b-unused : chunkAt cs₁ b .status ≡ unused
+    b-unused = rw (same₁ b b-apart) (b-free .1)
+
+    base₂ : Based z (s .directory .first) cs₂ es₂
+    base₂ = based-made z lim (s .directory .first) cs₁ es₁ base₁ b least l₂ (b-free .0) b-unused l₂-short l₂-rising h₂
+
+    same₂ : (f : ChunkNo) → f ≢ b → chunkAt cs₂ f ≡ chunkAt cs₁ f
+    same₂ = made-other z lim (s .directory .first) cs₁ es₁ base₁ b least l₂ (b-free .0) b-unused l₂-short l₂-rising h₂
+
+    at-second : chunkAt cs₂ b ≡ newRow least l₂
+    at-second = made-here z lim (s .directory .first) cs₁ es₁ base₁ b least l₂ (b-free .0) b-unused l₂-short l₂-rising h₂
+
+    at-first : chunkAt cs₂ a ≡ newRow (chunk s old .min) l₁
+    at-first = same₂ a (λ p. b-apart (sym p)) ∙ here₁
+
+    at-old : chunkAt cs₂ old ≡ chunk s old
+    at-old = same₂ old (not-unused b (b-free .1)) ∙ same₁ old (not-unused a (a-free .1))
+
+    range₁ : (k : ℕ) → InRange z (s .chunks) old k → InRange z cs₁ old k
+    range₁ k i = made-range z lim (s .directory .first) (s .chunks) (s .entries) base a (chunk s old .min) l₁ (a-free .0) (a-free .1) l₁-short r₁ h₁ old k old-in (old-role .1) i
+
+    range₂ : (k : ℕ) → InRange z (s .chunks) old k → InRange z cs₂ old k
+    range₂ k i = made-range z lim (s .directory .first) cs₁ es₁ base₁ b least l₂ (b-free .0) b-unused l₂-short l₂-rising h₂ old k old-in (rw (same₁ old (not-unused a (a-free .1))) (old-role .1)) (range₁ k i)
+
+    -- what holds of the keys of a half holds of the keys of its chunk's list
+    first-list : (P : ℕ → Type 0) → Every (λ x. P (x .key)) l₁ → Every (λ e. P (entryAt z es₂ a e .key)) (listed z cs₂ es₂ a)
+    first-list P all =
+        made-keys z lim (s .directory .first) cs₁ es₁ base₁ b least l₂ (b-free .0) b-unused l₂-short l₂-rising h₂ P a (a-free .0) (λ p. b-apart (sym p))
+        (made-list z lim (s .directory .first) (s .chunks) (s .entries) base a (chunk s old .min) l₁ (a-free .0) (a-free .1) l₁-short r₁ h₁ P all)
+
+    second-list : (P : ℕ → Type 0) → Every (λ x. P (x .key)) l₂ → Every (λ e. P (entryAt z es₂ b e .key)) (listed z cs₂ es₂ b)
+    second-list = made-list z lim (s .directory .first) cs₁ es₁ base₁ b least l₂ (b-free .0) b-unused l₂-short l₂-rising h₂
+
+    two-made : Made z (after b) cs₂ es₂
+    two-made =
+        record {
+          first-min = rw (at-first, at-old) refl;
+          second-min = λ _. rw (at-second, at-old) (past (rising-grows (chunk s old .min) half l inner (rising-from 0 (chunk s old .min) l l-rising (λ x m. l-range x m .from))));
+          second-in = λ _. rw at-second (range₂ least (l-range (getD l half emptyEntry) (getD-in half l inner)));
+          first-keys = first-list (InRange z cs₂ old) (every-take (λ x. InRange z cs₂ old (x .key)) half l (λ x m. range₂ (x .key) (l-range x m)));
+          first-below = λ _. rw at-second (first-list (λ k. k < least) (take-below 0 half l inner l-rising));
+          second-keys = λ _. second-list (InRange z cs₂ old) (every-drop (λ x. InRange z cs₂ old (x .key)) half l (λ x m. range₂ (x .key) (l-range x m)));
+          second-from = λ _. second-list (λ k. chunkAt cs₂ b .min ≤ k) (λ x m. rw at-second (rising-above least l₂ (rising-drop 0 half l inner l-rising) x m));
+        }
+      where
+        past : chunk s old .min + half ≤ least → chunk s old .min < least
+        past le = omega (arith, lim .two)
+
+    two : Kept z (makes z (makes z (withDirectory s (after b)) a (chunk s old .min) l₁) b least l₂)
+    two =
+        rw (fill-is z a (withDirectory s (after b)) 0 l₁, fill-is z b (withChunks (withEntries (withDirectory s (after b)) es₁) cs₁) 0 l₂)
+        (copied b cs₂ es₂ base₂ (rebalancing b cs₂ (number-in _ _ (b-free .0)) (λ e. b-apart (sym (ap chunkNo e))) (λ e. not-unused b (b-free .1) (ap chunkNo e)) at-old (rw at-first (refl, refl)) (λ _. rw at-second (refl, refl)) (λ f n1 n2. same₂ f n2 ∙ same₁ f n1)) two-made
+        (λ n. made-task z lim (s .directory .first) cs₁ es₁ base₁ b least l₂ (b-free .0) b-unused l₂-short l₂-rising h₂ (task s n) (made-task z lim (s .directory .first) (s .chunks) (s .entries) base a (chunk s old .min) l₁ (a-free .0) (a-free .1) l₁-short r₁ h₁ (task s n) (kept .tasks n))))
+
+  pub copy-kept : Kept z (copies z s .tables)
+  copy-kept = picked (λ (o : Outcome). Kept z (o .tables)) (leb (length l) (z .entries / 2)) (λ _. one) (λ t. two (leb-false _ _ t))
