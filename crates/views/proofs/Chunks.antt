@@ -3,12 +3,12 @@ use Prim.Native.Nat.{ℕ, zero, suc, _+_, _≤_, _<_, suc-le-suc, zero-le}
 use mathlib.Core.Path.{_≡_, refl, sym, ap, _∙_, subst}
 use mathlib.Core.Logic.{_⊎_, inl, inr, ⊎-elim, ⊎-map, _≢_}
 use mathlib.Core.Bool.{Bool, true, false}
-use mathlib.Core.List.{List, [], _∷_, _++_, List·Memᴰ, List·Memᴰ·head, List·Memᴰ·tail, List·Memᴰ·not-nil, List·Memᴰ·cases-cons, Memᴰ·cast}
+use mathlib.Core.List.{List, [], _∷_, _++_, List·Memᴰ, List·Memᴰ·head, List·Memᴰ·tail, List·Memᴰ·not-nil, List·Memᴰ·cases-cons, Memᴰ·cast, Memᴰ·append-left, Memᴰ·append-right}
 use native.Mathlib.Nat.{le-of-suc-le-suc, not-suc-le-zero, le-trans, le-refl, add-zero, add-suc, suc-add}
 use native.Mathlib.Numerals.{add-one}
 use native.Mathlib.Omega.{arith}
 use lib.Dec.{eqb, ltb, leb}
-use lib.ListN.{length}
+use lib.ListN.{length, length-append}
 use borrow.Author.Tests.{lt-ltb, le-ltb, le-leb, lt-leb, eq-eqb, ne-eqb, ltb-true, ltb-false, leb-true, leb-false, eqb-true, eqb-false}
 use Rattle.rules.specs.declared.Sizes.{Sizes}
 use Rattle.rules.specs.declared.Chunk.{Chunk}
@@ -207,3 +207,46 @@ module _ (z : Sizes) (cs cs′ : List Chunk) (sized : z .chunks ≤ NONE) (old a
           among = Memᴰ·cast (onward q t) (before-in fuel (chunkAt cs x .min + 1) y y l (le-of-suc-le-suc b) tail (later t (List·Memᴰ·cases-cons m)))
           kept : chunkAt cs′ x .next ≡ y
           kept = nexts x (List·Memᴰ·head refl) not-old (λ e. apart .0 p among (ap (λ (c : ChunkNo). c .0) e)) ∙ h .4 .0
+
+-- the chunk before another points to it
+pub before-next : (z : Sizes) (cs : List Chunk) (old : ChunkNo) (fuel lo : ℕ) (c x : ChunkNo) (l : List ChunkNo) → length l ≤ fuel → Chain z cs lo c (x ∷ l) → List·Memᴰ old l →
+    List·Memᴰ (beforeFrom z cs fuel c old) (x ∷ l) × (chunkAt cs (beforeFrom z cs fuel c old) .next ≡ old)
+unfolding Chain beforeFrom
+before-next z cs old fuel lo c x [] b h m = absurd (List·Memᴰ·not-nil m)
+before-next z cs old zero lo c x (y ∷ l) b h m = absurd (not-suc-le-zero b)
+before-next z cs old (suc fuel) lo c x (y ∷ l) b h m =
+    rw (h .0, h .4 .0)
+    (picked (λ (r : ChunkNo). List·Memᴰ r (x ∷ y ∷ l) × (chunkAt cs r .next ≡ old)) (eqb (y .0) (old .0)) (λ t. (List·Memᴰ·head refl, h .4 .0 ∙ ap chunkNo (eqb-true _ _ t)))
+    (λ t. rw (lt-ltb (y .0) (z .chunks) (h .4 .1)) (let on = before-next z cs old fuel _ y y l (le-of-suc-le-suc b) (refl, h .4 .1, h .4 .2, h .4 .3, h .4 .4) (later t (List·Memᴰ·cases-cons m)) in (List·Memᴰ·tail (on .0), on .1))))
+  where
+    later : eqb (y .0) (old .0) ≡ false → (old ≡ y) ⊎ List·Memᴰ old l → List·Memᴰ old l
+    later t (inl q) = absurd (eqb-false _ _ t (ap (λ (c : ChunkNo). c .0) (sym q)))
+    later t (inr n) = n
+
+-- ---- the members of the chain with new ones in the place of one
+module _ (old : ChunkNo) (new : List ChunkNo) where
+  pub replaced-new : (x : ChunkNo) (l : List ChunkNo) → List·Memᴰ old l → List·Memᴰ x new → List·Memᴰ x (replaced old new l)
+  unfolding replaced
+  replaced-new x [] m n = absurd (List·Memᴰ·not-nil m)
+  replaced-new x (y ∷ l) m n =
+      picked (λ (r : List ChunkNo). List·Memᴰ x r) (eqb (y .0) (old .0)) (λ _. Memᴰ·append-left l n)
+      (λ t. ⊎-elim (λ p. absurd (eqb-false _ _ t (ap (λ (c : ChunkNo). c .0) (sym p)))) (λ o. List·Memᴰ·tail (replaced-new x l o n)) (List·Memᴰ·cases-cons m))
+
+  pub replaced-old : (x : ChunkNo) (l : List ChunkNo) → List·Memᴰ x l → x ≢ old → List·Memᴰ x (replaced old new l)
+  unfolding replaced
+  replaced-old x [] m ne = absurd (List·Memᴰ·not-nil m)
+  replaced-old x (y ∷ l) m ne =
+      picked (λ (r : List ChunkNo). List·Memᴰ x r) (eqb (y .0) (old .0))
+      (λ t. ⊎-elim (λ p. absurd (ne (p ∙ ap chunkNo (eqb-true _ _ t)))) (λ o. Memᴰ·append-right new o) (List·Memᴰ·cases-cons m))
+      (λ t. ⊎-elim (λ p. List·Memᴰ·head p) (λ o. List·Memᴰ·tail (replaced-old x l o ne)) (List·Memᴰ·cases-cons m))
+
+  pub replaced-length : (l : List ChunkNo) → List·Memᴰ old l → length (replaced old new l) + 1 ≡ length l + length new
+  unfolding replaced
+  replaced-length [] m = absurd (List·Memᴰ·not-nil m)
+  replaced-length (y ∷ l) m =
+      picked (λ (r : List ChunkNo). length r + 1 ≡ suc (length l) + length new) (eqb (y .0) (old .0))
+      (λ t. omega (arith, length-append new l))
+      (λ t. ⊎-elim (λ p. absurd (eqb-false _ _ t (ap (λ (c : ChunkNo). c .0) (sym p)))) (λ o. rest (replaced-length l o)) (List·Memᴰ·cases-cons m))
+    where
+      rest : length (replaced old new l) + 1 ≡ length l + length new → suc (length (replaced old new l)) + 1 ≡ suc (length l) + length new
+      rest e = omega arith
