@@ -15,3 +15,4 @@ pub mod Putting
 pub mod Releasing
 pub mod Making
 pub mod Copying
+pub mod Swapping

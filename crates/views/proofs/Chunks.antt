@@ -92,6 +92,22 @@ module _ (z : Sizes) (cs : List Chunk) where
         (λ t. let on = chain-locate fuel _ k y y l (le-of-suc-le-suc b) (refl, h .4 .1, h .4 .2, h .4 .3, h .4 .4) (leb-true _ _ t) in (List·Memᴰ·tail (on .0), on .1))
         (λ t. (List·Memᴰ·head refl, record { from = le; to = λ i. rw (h .4 .0) (leb-false _ _ t) })))
 
+    -- the chunk that comes after has a larger minimum key
+    pub chain-rises : (k : ℕ) (c x : ChunkNo) (l : List ChunkNo) → Chain z cs k c l → List·Memᴰ x l → chunkAt cs x .next .0 < z .chunks → chunkAt cs x .min < chunkAt cs (chunkAt cs x .next) .min
+    unfolding Chain
+    chain-rises k c x [] h m = absurd (List·Memᴰ·not-nil m)
+    chain-rises k c x (y ∷ l) h m = λ i. ⊎-elim (λ (p : x ≡ y). rw p (first l refl (rw p at i))) (λ n. chain-rises _ _ x l (h .4) n i) (List·Memᴰ·cases-cons m)
+      where
+        first : (r : List ChunkNo) → r ≡ l → chunkAt cs y .next .0 < z .chunks → chunkAt cs y .min < chunkAt cs (chunkAt cs y .next) .min
+        first [] e i = absurd (none (rw (← e) at (h .4)))
+          where
+            none : chunkAt cs y .next .0 ≡ NONE → ⊥
+            none q = omega (arith, sized)
+        first (v ∷ r) e i = rw (ahead .0) (omega (arith, ahead .3))
+          where
+            ahead : Chain z cs (chunkAt cs y .min + 1) (chunkAt cs y .next) (v ∷ r)
+            ahead = rw (← e) at (h .4)
+
     -- no key lies in two ranges
     pub chain-one : (lo k : ℕ) (c x y : ChunkNo) (l : List ChunkNo) → Chain z cs lo c l → List·Memᴰ x l → List·Memᴰ y l → InRange z cs x k → InRange z cs y k → x ≡ y
     unfolding Chain
