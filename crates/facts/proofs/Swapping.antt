@@ -3,7 +3,7 @@ use Prim.Native.Nat.{ℕ, zero, suc, _+_, _*_, _≤_, _<_}
 use mathlib.Core.Path.{_≡_, refl, sym, ap, _∙_, subst}
 use mathlib.Core.Logic.{_⊎_, inl, inr, ⊎-elim, ⊎-map, _≢_}
 use mathlib.Core.Bool.{Bool, true, false}
-use mathlib.Core.List.{List, [], _∷_, _++_, List·Memᴰ, List·Memᴰ·head, List·Memᴰ·tail, List·Memᴰ·cases-cons}
+use mathlib.Core.List.{List, [], _∷_, _++_, List·Memᴰ, List·Memᴰ·head, List·Memᴰ·tail, List·Memᴰ·not-nil, List·Memᴰ·cases-cons}
 use native.Mathlib.Nat.{le-trans, le-refl}
 use native.Mathlib.Decide.{decLt}
 use native.Mathlib.Omega.{arith}
@@ -22,10 +22,10 @@ use Rattle.rules.specs.Tables.{Tables, chunkAt, entryAt, chunk, task, withDirec
 use Rattle.rules.specs.Walks.{beforeFrom}
 use Rattle.rules.specs.Rebalance.{withStatus, liveBefore, withNextChunk}
 use Rattle.rules.specs.Shape.{numbers, liveCount}
-use Rattle.laws.specs.Counts.{Every}
+use Rattle.laws.specs.Counts.{Every, Apart}
 use Rattle.laws.proofs.Tests.{picked, by-test}
 use Rattle.views.specs.Views.{Links, Chain, InRange, replaced}
-use Rattle.views.proofs.Chunks.{chain-live, chain-frame, chain-swap, chain-swap-first, chain-apart, chain-rises, before-next, replaced-new, replaced-old, replaced-length}
+use Rattle.views.proofs.Chunks.{chain-live, chain-frame, chain-swap, chain-swap-first, chain-raise, chain-apart, chain-rises, before-next, replaced-new, replaced-old, replaced-length}
 use Rattle.facts.specs.Facts.{Limited, RowRight, ListRight, listed, Chained, KeyInRange, Roles, Made, Rebalancing, Tabled, ChunkOfKey, EntryHeld, Tasked, Kept}
 use Rattle.facts.proofs.Numbers.{number-in, number-cases}
 use Rattle.facts.proofs.Shapes.{chain-short}
@@ -50,6 +50,13 @@ pub record Swapped (z : Sizes) (s : Tables) (cs : List Chunk) : Type 0 where
   pub second : s .directory .second .0 < z .chunks → chunkAt cs (s .directory .second) ≡ liveBefore (chunk s (s .directory .second)) (chunk s (s .directory .old) .next)
   pub before : s .directory .first ≢ s .directory .old → chunkAt cs (beforeOld z s) ≡ withNextChunk (chunk s (beforeOld z s)) (s .directory .new)
   pub other : (f : ChunkNo) → f ≢ s .directory .old → f ≢ s .directory .new → f ≢ s .directory .second → (s .directory .first ≢ s .directory .old → f ≢ beforeOld z s) → chunkAt cs f ≡ chunk s f
+
+-- a chain that is not empty, by all its members
+chained-by : (z : Sizes) (cs : List Chunk) (start : ChunkNo) (l : List ChunkNo) → Chain z cs 0 start l → chunkAt cs start .min ≡ 0 → length l ≡ liveCount cs →
+    ((c : ChunkNo) → c .0 < z .chunks → chunkAt cs c .status ≡ live → List·Memᴰ c l) → {x : ChunkNo} → List·Memᴰ x l → Chained z start cs
+unfolding Chain
+chained-by z cs start [] h e n all m = absurd (List·Memᴰ·not-nil m)
+chained-by z cs start (x ∷ l) h e n all m = record { rest = l; chain = rw (h .0) (refl, h .1, h .2, h .3, h .4); from = e; counted = n; every = λ c b k. rw (h .0) (all c b k) }
 
 module _ (z : Sizes) (lim : Limited z) (s : Tables) (kept : Kept z s) (swapping : s .directory .stage ≡ toSwap) where
   h : Tabled z (s .directory) (s .chunks) (s .entries)
@@ -231,3 +238,92 @@ module _ (z : Sizes) (lim : Limited z) (s : Tables) (kept : Kept z s) (swapping 
         go (inl e) = rw e (range-first (entryAt z (s .entries) a x .key) (m .first-keys x (rw e at n′)) (λ j. m .first-below j x (rw e at n′)))
         go (inr (inl e)) = rw (e .1) (range-second (entryAt z (s .entries) b x .key) (e .0) (m .second-keys (e .0) x (rw (e .1) at n′)) (m .second-from (e .0) x (rw (e .1) at n′)))
         go (inr (inr e)) = range-kept f (entryAt z (s .entries) f x .key) i (e .1) (e .0) (h .key-in-range f i (e .1) x n′)
+
+    -- ---- the chain
+    abbrev news : List ChunkNo
+    news = newOnes z (s .directory)
+
+    new-live : (chunkAt cs a .status ≡ live) × (b .0 < z .chunks → chunkAt cs b .status ≡ live)
+    new-live = (ap (λ (y : Chunk). y .status) (w .new), λ i. ap (λ (y : Chunk). y .status) (w .second i))
+
+    make : (lo : ℕ) (r : List ChunkNo) → lo ≤ chunk s old .min → Chain z (s .chunks) (chunk s old .min + 1) (chunk s old .next) r → Chain z cs (chunk s old .min + 1) (chunk s old .next) r → Chain z cs lo a (news ++ r)
+    unfolding Chain
+    make lo r le _ on = by-second two-or-not
+      where
+        least : chunkAt cs a .min ≡ chunk s old .min
+        least = alike a a-in .0 ∙ m .first-min
+        by-second : (b .0 < z .chunks) ⊎ (b .0 ≡ NONE) → Chain z cs lo a (news ++ r)
+        by-second (inl i) =
+            rw (lt-ltb (b .0) (z .chunks) i)
+            (refl, a-in, new-live .0, rw least le,
+            (to-second, i, new-live .1 i, rw (least, alike b i .0) (more (m .second-min i)), rw (alike b i .0, second-next) (chain-raise z cs (chunk s old .min + 1) (chunk s b .min + 1) (chunk s old .next) r on (λ j. rw (alike (chunk s old .next) j .0) (more (m .second-in i .to j))))))
+          where
+            to-second : chunkAt cs a .next ≡ b
+            to-second = ap (λ (y : Chunk). y .next) (w .new) ∙ rw (lt-ltb (b .0) (z .chunks) i)
+            second-next : chunkAt cs b .next ≡ chunk s old .next
+            second-next = ap (λ (y : Chunk). y .next) (w .second i)
+            more : {j k : ℕ} → j < k → j + 1 ≤ k
+            more lt = omega arith
+        by-second (inr e) = rw (le-ltb (b .0) (z .chunks) (rw e (lim .chunks))) (refl, a-in, new-live .0, rw least le, rw (least, first-next) on)
+          where
+            first-next : chunkAt cs a .next ≡ chunk s old .next
+            first-next = ap (λ (y : Chunk). y .next) (w .new) ∙ rw (le-ltb (b .0) (z .chunks) (rw e (lim .chunks)))
+
+    abbrev start : ChunkNo
+    start = pick (eqb (first .0) (old .0)) a first
+
+    -- a chunk of the chain other than the old one
+    chain-row : (f : ChunkNo) → List·Memᴰ f (first ∷ c .rest) → f ≢ old → (chunkAt cs f .status ≡ chunk s f .status) × (chunkAt cs f .min ≡ chunk s f .min)
+    chain-row f n ne = (stays-live f (at .0) (at .1) ne ∙ sym (at .1), alike f (at .0) .0)
+      where
+        at : (f .0 < z .chunks) × (chunk s f .status ≡ live)
+        at = chain-live z (s .chunks) 0 first (first ∷ c .rest) (c .chain) f n
+
+    chain-next-is : (f : ChunkNo) → List·Memᴰ f (first ∷ c .rest) → f ≢ old → (first ≢ old → f ≢ p) → chunkAt cs f .next ≡ chunk s f .next
+    chain-next-is f n ne np = row-is f (λ y. y .next ≡ chunk s f .next) (at .0) (λ e. absurd (ne e)) (λ e. absurd (unlike f a (at .1) a-new (omega arith) e)) (λ e. absurd (unlike f b (at .1) (b-new (rw (← e) (at .0))) (omega arith) e)) (λ nf e. absurd (np nf e)) (λ _ _ _. refl)
+      where
+        at : (f .0 < z .chunks) × (chunk s f .status ≡ live)
+        at = chain-live z (s .chunks) 0 first (first ∷ c .rest) (c .chain) f n
+
+    chain-then : Chain z cs 0 start (replaced old news (first ∷ c .rest))
+    unfolding Apart
+    chain-then = ⊎-elim at-first later (same-chunk first old)
+      where
+        at-first : first ≡ old → Chain z cs 0 start (replaced old news (first ∷ c .rest))
+        at-first e = rw (eq-eqb (first .0) (old .0) (ap (λ (c : ChunkNo). c .0) e)) (subst (λ (x : ChunkNo). Chain z cs 0 a (replaced old news (x ∷ c .rest))) (sym e) (chain-swap-first z (s .chunks) cs (lim .chunks) old a news make 0 first (c .rest) (subst (λ (x : ChunkNo). Chain z (s .chunks) 0 first (x ∷ c .rest)) e (c .chain)) same))
+          where
+            same : Every (λ x. (chunkAt cs x .status ≡ chunk s x .status) × (chunkAt cs x .min ≡ chunk s x .min) × (chunkAt cs x .next ≡ chunk s x .next)) (c .rest)
+            same x n = (chain-row x (List·Memᴰ·tail n) ne .0, chain-row x (List·Memᴰ·tail n) ne .1, chain-next-is x (List·Memᴰ·tail n) ne (λ nf. absurd (nf e)))
+              where
+                ne : x ≢ old
+                ne r = chain-apart z (s .chunks) 0 first (first ∷ c .rest) (c .chain) .0 x n (ap (λ (c : ChunkNo). c .0) (e ∙ sym r))
+        later : first ≢ old → Chain z cs 0 start (replaced old news (first ∷ c .rest))
+        later ne =
+            rw (ne-eqb (first .0) (old .0) (λ e. ne (ap chunkNo e)))
+            (chain-swap z (s .chunks) cs (lim .chunks) old a news make (z .chunks) 0 first first p (c .rest) (le-trans (omega arith) (chain-short z (s .chunks) first (h .chunks-sized) c)) (c .chain) (in-rest (List·Memᴰ·cases-cons old-linked)) refl chain-row (λ f n x y. chain-next-is f n x (λ _. y)) (ap (λ (y : Chunk). y .next) (w .before ne)))
+          where
+            in-rest : (old ≡ first) ⊎ List·Memᴰ old (c .rest) → List·Memᴰ old (c .rest)
+            in-rest (inl e) = absurd (ne (sym e))
+            in-rest (inr o) = o
+
+    in-news : (List·Memᴰ a news) × (b .0 < z .chunks → List·Memᴰ b news)
+    in-news = (picked (λ (l : List ChunkNo). List·Memᴰ a l) (ltb (b .0) (z .chunks)) (λ _. List·Memᴰ·head refl) (λ _. List·Memᴰ·head refl), λ i. rw (lt-ltb (b .0) (z .chunks) i) (List·Memᴰ·tail (List·Memᴰ·head refl)))
+
+    every-live : (f : ChunkNo) → f .0 < z .chunks → chunkAt cs f .status ≡ live → List·Memᴰ f (replaced old news (first ∷ c .rest))
+    every-live f i l = go (was-live f i l)
+      where
+        go : (f ≡ a) ⊎ (((b .0 < z .chunks) × (f ≡ b)) ⊎ ((f ≢ old) × (chunk s f .status ≡ live))) → List·Memᴰ f (replaced old news (first ∷ c .rest))
+        go (inl e) = rw e (replaced-new old news a (first ∷ c .rest) old-linked (in-news .0))
+        go (inr (inl e)) = rw (e .1) (replaced-new old news b (first ∷ c .rest) old-linked (in-news .1 (e .0)))
+        go (inr (inr e)) = replaced-old old news f (first ∷ c .rest) (c .every f i (e .1)) (e .0)
+
+    start-min : chunkAt cs start .min ≡ 0
+    start-min = ⊎-elim at-first later (same-chunk first old)
+      where
+        at-first : first ≡ old → chunkAt cs start .min ≡ 0
+        at-first e = rw (eq-eqb (first .0) (old .0) (ap (λ (c : ChunkNo). c .0) e)) (alike a a-in .0 ∙ m .first-min ∙ ap (λ (c : ChunkNo). chunk s c .min) (sym e) ∙ c .from)
+        later : first ≢ old → chunkAt cs start .min ≡ 0
+        later ne = rw (ne-eqb (first .0) (old .0) (λ e. ne (ap chunkNo e))) (alike first (chain-live z (s .chunks) 0 first (first ∷ c .rest) (c .chain) first (List·Memᴰ·head refl) .0) .0 ∙ c .from)
+
+    chained-then : Chained z start cs
+    chained-then = chained-by z cs start (replaced old news (first ∷ c .rest)) chain-then start-min (omega (arith, w .counted, c .counted, replaced-length old news (first ∷ c .rest) old-linked)) every-live (replaced-new old news a (first ∷ c .rest) old-linked (in-news .0))

@@ -138,6 +138,12 @@ chain-frame z cs cs′ k c (x ∷ l) h same =
     let here = same x (List·Memᴰ·head refl) in
     (h .0, h .1, here .0 ∙ h .2, rw (here .1) (h .3), rw (here .1, here .2) (chain-frame z cs cs′ _ _ l (h .4) (λ y m. same y (List·Memᴰ·tail m))))
 
+-- a chain whose first minimum key is at least k ascends from k on
+pub chain-raise : (z : Sizes) (cs : List Chunk) (j k : ℕ) (c : ChunkNo) (l : List ChunkNo) → Chain z cs j c l → (c .0 < z .chunks → k ≤ chunkAt cs c .min) → Chain z cs k c l
+unfolding Chain
+chain-raise z cs j k c [] h le = h
+chain-raise z cs j k c (x ∷ l) h le = (h .0, h .1, h .2, rw (h .0) at (le (rw (h .0) (h .1))), h .4)
+
 -- the chain with new chunks in the place of the old one, by the rows that change
 module _ (z : Sizes) (cs cs′ : List Chunk) (sized : z .chunks ≤ NONE) (old a : ChunkNo) (new : List ChunkNo)
     (make : (lo : ℕ) (r : List ChunkNo) → lo ≤ chunkAt cs old .min → Chain z cs (chunkAt cs old .min + 1) (chunkAt cs old .next) r →
