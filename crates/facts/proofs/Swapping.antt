@@ -327,3 +327,62 @@ module _ (z : Sizes) (lim : Limited z) (s : Tables) (kept : Kept z s) (swapping 
 
     chained-then : Chained z start cs
     chained-then = chained-by z cs start (replaced old news (first ∷ c .rest)) chain-then start-min (omega (arith, w .counted, c .counted, replaced-length old news (first ∷ c .rest) old-linked)) every-live (replaced-new old news a (first ∷ c .rest) old-linked (in-news .0))
+
+    -- ---- the rebalance and the tasks
+    abbrev then-at : Directory
+    then-at = record { first = start; stage = toRelease; old = old; new = a; second = b }
+
+    roles : (f : ChunkNo) → f .0 < z .chunks → Roles then-at (f .0) (chunkAt cs f)
+    roles f i =
+        record {
+          old = λ e. at-old (sym (ap chunkNo e));
+          new = λ ne o. (frozen-new ne o, row-is f (λ y. y .status ≡ live) i (λ e. absurd (ne (ap (λ (c : ChunkNo). c .0) (sym e)))) (λ _. refl) (λ _. refl) (λ r _. p-live r .1) (λ _ n2 n3. absurd (⊎-elim (λ r. n2 (sym (ap chunkNo r))) (λ r. n3 (sym (ap chunkNo r))) o)));
+          other = λ n1 n2 n3. (alike f i .3 ∙ q .roles f i .other n1 n2 n3 .0, status-other n1 n2 n3);
+        }
+      where
+        at-old : f ≡ old → (chunkAt cs f .frozen ≡ 1) × (chunkAt cs f .status ≡ retired)
+        at-old e = (alike f i .3 ∙ ap (λ (c : ChunkNo). chunk s c .frozen) e ∙ old-role .0, ap (λ (c : ChunkNo). chunkAt cs c .status) e ∙ ap (λ (y : Chunk). y .status) (w .old))
+        frozen-new : old .0 ≢ f .0 → (a .0 ≡ f .0) ⊎ (b .0 ≡ f .0) → chunkAt cs f .frozen ≡ 0
+        frozen-new ne o = alike f i .3 ∙ q .roles f i .new ne o .0
+        status-other : old .0 ≢ f .0 → a .0 ≢ f .0 → b .0 ≢ f .0 → (chunkAt cs f .status ≡ unused) ⊎ (chunkAt cs f .status ≡ live)
+        status-other n1 n2 n3 =
+            row-is f (λ y. (y .status ≡ unused) ⊎ (y .status ≡ live)) i (λ e. absurd (n1 (ap (λ (c : ChunkNo). c .0) (sym e)))) (λ _. inr refl) (λ _. inr refl) (λ r _. inr (p-live r .1)) (λ _ _ _. q .roles f i .other n1 n2 n3 .1)
+
+    task-right : (t : Task) → Tasked z (s .chunks) (s .entries) t → Tasked z cs (s .entries) t
+    task-right t r = record { idle = r .idle; holds = r .holds; chunk-of-key = λ i. of-key i (same-chunk (t .chunk) old) (r .chunk-of-key i); entry = λ i. held (r .entry i) }
+      where
+        third : _≡_ {A = ℕ} 1 3 → ⊥
+        third e = omega arith
+        of-key : t .chunk .0 < z .chunks → (t .chunk ≡ old) ⊎ (t .chunk ≢ old) → ChunkOfKey z (s .chunks) (t .chunk) (t .key) → ChunkOfKey z cs (t .chunk) (t .key)
+        of-key i (inl e) k = inl (ap (λ (c : ChunkNo). chunkAt cs c .status) e ∙ ap (λ (y : Chunk). y .status) (w .old))
+        of-key i (inr ne) (inl e) = inl (row-is (t .chunk) (λ y. y .status ≡ retired) i (λ r. absurd (ne r)) (λ r. absurd (unlike (t .chunk) a e a-new (omega arith) r)) (λ r. absurd (unlike (t .chunk) b e (b-new (rw (← r) i)) (omega arith) r)) (λ nf r. absurd (unlike (t .chunk) p e (p-live nf .1) (omega arith) r)) (λ _ _ _. e))
+        of-key i (inr ne) (inr e) = inr (stays-live (t .chunk) i (e .0) ne, range-kept (t .chunk) (t .key) i (e .0) ne (e .1))
+        held : EntryHeld z (s .chunks) (s .entries) (t .chunk) (t .entry) (t .key) (t .stage) → EntryHeld z cs (s .entries) (t .chunk) (t .entry) (t .key) (t .stage)
+        held y = record { inside = y .inside; used = rw (alike (t .chunk) (y .inside) .2) (y .used); keyed = y .keyed; linked = λ o. rw (quiet (t .chunk) (y .inside) .0) (y .linked o) }
+
+    pub swapped-kept : Kept z (withDirectory (withChunks s cs) (record { first = pick (eqb (s .directory .first .0) (s .directory .old .0)) (s .directory .new) (s .directory .first); stage = toRelease; old = s .directory .old; new = s .directory .new; second = s .directory .second }))
+    swapped-kept =
+        record {
+          tasks-sized = kept .tasks-sized;
+          values-sized = kept .values-sized;
+          marks-sized = kept .marks-sized;
+          marks = kept .marks;
+          tables =
+            record {
+              chunks-sized = w .sized ∙ h .chunks-sized;
+              entries-sized = h .entries-sized;
+              lists = list-right;
+              chained = chained-then;
+              key-in-range = in-range;
+              rebalancing = record { known = omega arith; none = λ e. absurd (four e); unmade = λ le. absurd (over le); old = λ _. old-in; room = λ _ le. absurd (over le); new = λ _. a-in; second = λ _. q .second late; apart = λ _. q .apart late; old-new = λ _. q .old-new late; old-second = λ _. q .old-second late; roles = roles };
+              made = λ e. absurd (three e);
+            };
+          tasks = λ n. task-right (task s n) (kept .tasks n);
+        }
+      where
+        four : _≡_ {A = ℕ} 4 0 → ⊥
+        four e = omega arith
+        three : _≡_ {A = ℕ} 4 3 → ⊥
+        three e = omega arith
+        over : 4 ≤ 2 → ⊥
+        over le = omega arith
