@@ -16,3 +16,4 @@ pub mod Releasing
 pub mod Making
 pub mod Copying
 pub mod Swapping
+pub mod SwapIn

@@ -68,7 +68,7 @@ module _ (z : Sizes) (lim : Limited z) (s : Tables) (kept : Kept z s) (swapping 
   m : Made z (s .directory) (s .chunks) (s .entries)
   m = h .made swapping
 
-  late : toSwap ≤ s .directory .stage
+  pub late : toSwap ≤ s .directory .stage
   late = omega arith
 
   abbrev old : ChunkNo
@@ -117,7 +117,7 @@ module _ (z : Sizes) (lim : Limited z) (s : Tables) (kept : Kept z s) (swapping 
   old-linked = c .every old old-in (old-role .1)
 
   -- two chunks of different status are apart
-  unlike : (f g : ChunkNo) {m n : ℕ} → chunk s f .status ≡ m → chunk s g .status ≡ n → m ≢ n → f ≢ g
+  pub unlike : (f g : ChunkNo) {m n : ℕ} → chunk s f .status ≡ m → chunk s g .status ≡ n → m ≢ n → f ≢ g
   unlike f g e i ne r = ne (sym e ∙ ap (λ (c : ChunkNo). chunk s c .status) r ∙ i)
 
   -- the one before the old chunk, where there is one
@@ -138,7 +138,7 @@ module _ (z : Sizes) (lim : Limited z) (s : Tables) (kept : Kept z s) (swapping 
       never : chunk s p .min < chunk s (chunk s p .next) .min → ⊥
       never lt = omega (arith, lt, ap (λ (c : ChunkNo). chunk s c .min) (p-facts ne .1 ∙ sym e))
 
-  two-or-not : (b .0 < z .chunks) ⊎ (b .0 ≡ NONE)
+  pub two-or-not : (b .0 < z .chunks) ⊎ (b .0 ≡ NONE)
   two-or-not = number-cases (z .chunks) (b .0) (q .second late)
 
   -- ---- the tables after it
