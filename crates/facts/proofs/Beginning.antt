@@ -78,6 +78,7 @@ module _ (z : Sizes) (lim : Limited z) (s : Tables) (kept : Kept z s) where
           where
             r : RowRight z (chunk s c)
             r = h .lists c c-in .row
+
             one : _≡_ {A = ℕ} 1 0 → ⊥
             one e = omega arith
 
@@ -98,8 +99,10 @@ module _ (z : Sizes) (lim : Limited z) (s : Tables) (kept : Kept z s) where
       where
         q : Rebalancing z (s .directory) (s .chunks)
         q = h .rebalancing
+
         early : s .directory .stage ≤ toCopy
         early = omega arith
+
         none : NONE ≡ f .0 → ⊥
         none e = omega (arith, lim .chunks)
 
@@ -134,6 +137,7 @@ module _ (z : Sizes) (lim : Limited z) (s : Tables) (kept : Kept z s) where
       where
         idle-not : _≡_ {A = ℕ} 1 0 → ⊥
         idle-not e = omega arith
+
         late : 3 ≤ 1 → ⊥
         late b = omega arith
 
@@ -179,6 +183,7 @@ module _ (z : Sizes) (lim : Limited z) (s : Tables) (kept : Kept z s) where
       where
         early : s .directory .stage ≤ toCopy
         early = omega arith
+
         none : NONE ≡ f .0 → ⊥
         none e = omega (arith, lim .chunks)
 
@@ -191,22 +196,24 @@ module _ (z : Sizes) (lim : Limited z) (s : Tables) (kept : Kept z s) where
           marks-sized = kept .marks-sized;
           marks = kept .marks;
           tables =
-            record {
-              chunks-sized = h .chunks-sized;
-              entries-sized = h .entries-sized;
-              lists = h .lists;
-              chained = h .chained;
-              key-in-range = h .key-in-range;
-              rebalancing = record { known = omega arith; none = λ e. absurd (two e); unmade = λ _. (refl, refl); old = λ _. q .old (omega arith); room = λ _ _. q .room (omega arith) (omega arith); new = λ b. absurd (late b); second = λ b. absurd (late b); apart = λ b. absurd (late b); old-new = λ b. absurd (late b); old-second = λ b. absurd (late b); roles = drained-roles };
-              made = λ e. absurd (three e);
-            };
+              record {
+                chunks-sized = h .chunks-sized;
+                entries-sized = h .entries-sized;
+                lists = h .lists;
+                chained = h .chained;
+                key-in-range = h .key-in-range;
+                rebalancing = record { known = omega arith; none = λ e. absurd (two e); unmade = λ _. (refl, refl); old = λ _. q .old (omega arith); room = λ _ _. q .room (omega arith) (omega arith); new = λ b. absurd (late b); second = λ b. absurd (late b); apart = λ b. absurd (late b); old-new = λ b. absurd (late b); old-second = λ b. absurd (late b); roles = drained-roles };
+                made = λ e. absurd (three e);
+              };
           tasks = kept .tasks;
         }
       where
         two : _≡_ {A = ℕ} 2 0 → ⊥
         two e = omega arith
+
         three : _≡_ {A = ℕ} 2 3 → ⊥
         three e = omega arith
+
         late : 3 ≤ 2 → ⊥
         late b = omega arith
 

@@ -118,8 +118,10 @@ module _ (z : Sizes) (lim : Limited z) (s : Tables) (kept : Kept z s) (copying :
       where
         second : c .0 ≡ f .0 → (chunkAt cs′ f .frozen ≡ 0) × (chunkAt cs′ f .status ≡ new)
         second e = rw (← (ap chunkNo e)) (at-second (rw e bf))
+
         early : s .directory .stage ≤ toCopy
         early = omega arith
+
         none : NONE ≡ f .0 → ⊥
         none e = omega (arith, lim .chunks)
 
@@ -141,6 +143,7 @@ module _ (z : Sizes) (lim : Limited z) (s : Tables) (kept : Kept z s) (copying :
       where
         three : _≡_ {A = ℕ} 3 0 → ⊥
         three e = omega arith
+
         late : 3 ≤ 2 → ⊥
         late le = omega arith
 
@@ -163,18 +166,25 @@ module _ (z : Sizes) (lim : Limited z) (s : Tables) (kept : Kept z s) (copying :
     where
       cs₁ : List Chunk
       cs₁ = set (s .chunks) (a .0) (newRow (chunk s old .min) l)
+
       es₁ : List Entry
       es₁ = filled z a 0 l (s .entries)
+
       base₁ : Based z (s .directory .first) cs₁ es₁
       base₁ = based-made z lim (s .directory .first) (s .chunks) (s .entries) base a (chunk s old .min) l (a-free .0) (a-free .1) l-short l-rising l-handles
+
       at-old : chunkAt cs₁ old ≡ chunk s old
       at-old = made-other z lim (s .directory .first) (s .chunks) (s .entries) base a (chunk s old .min) l (a-free .0) (a-free .1) l-short l-rising l-handles old (not-unused a (a-free .1))
+
       at-new : chunkAt cs₁ a ≡ newRow (chunk s old .min) l
       at-new = made-here z lim (s .directory .first) (s .chunks) (s .entries) base a (chunk s old .min) l (a-free .0) (a-free .1) l-short l-rising l-handles
+
       never : {n : ℕ} → n < z .chunks → n ≡ NONE → ⊥
       never i e = omega (arith, lim .chunks)
+
       out : NONE < z .chunks → ⊥
       out i = omega (arith, lim .chunks)
+
       made : Made z (after noChunk) cs₁ es₁
       made =
           record {

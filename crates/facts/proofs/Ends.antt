@@ -52,10 +52,13 @@ module _ (z : Sizes) (lim : Limited z) (s : Tables) (h : Tabled z (s .directory)
     where
       held : EntryHeld z (s .chunks) (s .entries) (t .chunk) (t .entry) (t .key) (t .stage)
       held = r .entry be
+
       entries′ : List Entry
       entries′ = set (s .entries) (row z (t .chunk) (t .entry)) (Stages.withHandle (entry z s (t .chunk) (t .entry)) x)
+
       after : Tasked z (s .chunks) entries′ t
       after = name-written z lim (s .directory) (s .chunks) (s .entries) h (t .chunk) (t .entry) x b (held .used) num .tasks t r
+
       again : EntryHeld z (s .chunks) entries′ (t .chunk) (t .entry) (t .key) (t .stage) → EntryHeld z (s .chunks) entries′ (t .chunk) (t .entry) (t .key) m
       again y = record { inside = y .inside; used = y .used; keyed = y .keyed; linked = λ _. y .linked (λ q. ne (sym e ∙ q)) }
 
@@ -134,6 +137,7 @@ module _ (z : Sizes) (lim : Limited z) (s : Tables) (h : Tabled z (s .directory)
     where
       busy : t .stage ≡ 0 → ⊥
       busy q = omega arith
+
       H : Holds z t (holdAt 22)
       H = Going.holds-at z lim s h t r 22 e (omega arith)
 
@@ -169,5 +173,6 @@ module _ (z : Sizes) (lim : Limited z) (s : Tables) (h : Tabled z (s .directory)
     where
       n : ℕ
       n = t .stage
+
       P : (Sizes → Tables → Task → Decision) → Type 0
       P f = Fine z s (f z s t)

@@ -94,6 +94,7 @@ module _ (z : Sizes) (lim : Limited z) where
     where
       first : (P : Chunk → Type 0) → P (withStatus emptyChunk live) → P (chunkAt cs (chunkNo 0))
       first P p = chunk-is (chunkNo 0) P (λ _. p) (λ ne. absurd (ne refl))
+
       zero : _≡_ {A = ℕ} 0 1 → ⊥
       zero q = omega arith
 
@@ -119,8 +120,10 @@ module _ (z : Sizes) (lim : Limited z) where
     where
       late : 1 ≤ 0 → ⊥
       late b = omega arith
+
       later : 3 ≤ 0 → ⊥
       later b = omega arith
+
       roles : (c : ChunkNo) → c .0 < z .chunks → Roles resting (c .0) (chunkAt cs c)
       roles c b =
           record {
@@ -141,23 +144,26 @@ module _ (z : Sizes) (lim : Limited z) where
         marks-sized = length-replicate (z .handles) 0;
         marks = λ h. rw (getD-all {A = ℕ} (z .handles) h 0) (omega arith);
         tables =
-          record {
-            chunks-sized = length-set (replicate (z .chunks) emptyChunk) 0 (withStatus emptyChunk live) ∙ length-replicate (z .chunks) emptyChunk;
-            entries-sized = length-replicate (z .chunks * z .entries) emptyEntry;
-            lists = λ c b. list-right c;
-            chained = chained-right;
-            key-in-range = λ c b l. nothing-listed c _;
-            rebalancing = rebalancing-right;
-            made = λ e. absurd (three e);
-          };
+            record {
+              chunks-sized = length-set (replicate (z .chunks) emptyChunk) 0 (withStatus emptyChunk live) ∙ length-replicate (z .chunks) emptyChunk;
+              entries-sized = length-replicate (z .chunks * z .entries) emptyEntry;
+              lists = λ c b. list-right c;
+              chained = chained-right;
+              key-in-range = λ c b l. nothing-listed c _;
+              rebalancing = rebalancing-right;
+              made = λ e. absurd (three e);
+            };
         tasks = λ n. rw (getD-all (z .tasks) n idleTask) idle-task;
       }
     where
       three : _≡_ {A = ℕ} 0 3 → ⊥
       three e = omega arith
+
       out-chunk : NONE < z .chunks → ⊥
       out-chunk b = omega (arith, lim .chunks)
+
       out-entry : NONE < z .entries → ⊥
       out-entry b = omega (arith, lim .entries)
+
       idle-task : Tasked z cs es idleTask
       idle-task = record { idle = λ _. refl; holds = λ ne. absurd (ne refl); chunk-of-key = λ b. absurd (out-chunk b); entry = λ b. absurd (out-entry b) }

@@ -64,10 +64,13 @@ module _ (z : Sizes) (lim : Limited z) (s : Tables) (h : Tabled z (s .directory)
     where
       c : Chained z (s .directory .first) (s .chunks)
       c = h .chained
+
       short : length (s .directory .first ∷ c .rest) ≤ z .chunks
       short = chain-short z (s .chunks) (s .directory .first) (h .chunks-sized) c
+
       found : List·Memᴰ (locate z s k) (s .directory .first ∷ c .rest) × InRange z (s .chunks) (locate z s k) k
       found = chain-locate z (s .chunks) (lim .chunks) (z .chunks) 0 k (s .directory .first) (s .directory .first) (c .rest) short (c .chain) (rw (c .from) (omega arith))
+
       at : (locate z s k .0 < z .chunks) × (chunk s (locate z s k) .status ≡ live)
       at = chain-live z (s .chunks) 0 (s .directory .first) (s .directory .first ∷ c .rest) (c .chain) (locate z s k) (found .0)
 
@@ -81,12 +84,12 @@ module _ (z : Sizes) (lim : Limited z) (s : Tables) (h : Tabled z (s .directory)
         record {
           allowed = tt;
           task = λ ts.
-            record {
-              idle = λ e. absurd (one e);
-              holds = λ _. record { fits = f; function = r .holds ne .function; chunk = refl; entry = refl; old = refl; new = refl; published = refl; swapped = refl };
-              chunk-of-key = no-chunk _;
-              entry = no-entry _;
-            };
+              record {
+                idle = λ e. absurd (one e);
+                holds = λ _. record { fits = f; function = r .holds ne .function; chunk = refl; entry = refl; old = refl; new = refl; published = refl; swapped = refl };
+                chunk-of-key = no-chunk _;
+                entry = no-entry _;
+              };
         }
       where
         one : _≡_ {A = ℕ} 1 0 → ⊥

@@ -17,3 +17,5 @@ pub mod Making
 pub mod Copying
 pub mod Swapping
 pub mod SwapIn
+pub mod Reports
+pub mod Reaching

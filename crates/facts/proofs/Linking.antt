@@ -104,10 +104,13 @@ module _ (z : Sizes) (lim : Limited z) (d : Directory) (cs : List Chunk) (es : L
       where
         key-is : entryAt z es′ c e .key ≡ k
         key-is = keys c e e-in ∙ w .keyed
+
         new-key : chunkAt cs c .status ≡ live → (x : EntryNo) → x ≡ e → InRange z cs c (entryAt z es′ c x .key)
         new-key p x q = rw q (rw key-is (w .range p))
+
         grown : chunkAt cs c .status ≡ live → Every (λ x. InRange z cs c (entryAt z es′ c x .key)) (listed z cs′ es′ c)
         grown p x m = ⊎-elim (λ q. new-key p x q) (λ n. rw (keys c x (inside z lim d cs es h c (w .numbered) x n)) (h .key-in-range c (w .numbered) p x n)) (put-cases z es c e k l x (rw seen at m))
+
         so : (f : ChunkNo) → f .0 < z .chunks → Quiet z cs cs′ same es es′ f ⊎ Grown z cs cs′ same es es′ f
         so f b = ⊎-elim (λ (p : f ≡ c). inr (rw p (w .notNew, grown))) (λ ne. inl (record { list = quiet f b ne .0; keys = λ x m. keys f x (inside z lim d cs es h f b x m) })) (same-chunk f c)
 
@@ -157,12 +160,16 @@ module _ (z : Sizes) (lim : Limited z) (d : Directory) (cs : List Chunk) (es : L
       where
         s : SlotRight z (chunkAt cs f .used) (x .0) (entryAt z es f x)
         s = h .lists f bf .slot x bx
+
         used-before : before .0 < chunkAt cs c .used
         used-before = below z lim d cs es h c (w .numbered) before place-linked
+
         over : (y : EntryNo) → y .0 < chunkAt cs c .used → chunkAt cs c .used ≤ y .0 → ⊥
         over y lt le = omega arith
+
         at-before : f ≡ c → x ≡ before → SlotRight z (chunkAt cs f .used) (x .0) (withNext (entryAt z es c before) e)
         at-before p q = rw (p, q) (record { handle = h .lists c (w .numbered) .slot before b .handle; next = λ _. number-in _ _ e-in; empty = λ le. absurd (over before used-before le) })
+
         at-e : f ≡ c → x ≡ e → SlotRight z (chunkAt cs f .used) (x .0) (withNext (entryAt z es c e) (entryAt z es c before .next))
         at-e p q = rw (p, q) (record { handle = h .lists c (w .numbered) .slot e e-in .handle; next = λ _. h .lists c (w .numbered) .slot before b .next used-before; empty = λ le. absurd (over e (w .used) le) })
 
@@ -174,9 +181,10 @@ module _ (z : Sizes) (lim : Limited z) (d : Directory) (cs : List Chunk) (es : L
 
     after-at : (entryAt z entries₂ c before .next ≡ e) × (entryAt z entries₂ c e .next ≡ entryAt z es c before .next)
     unfolding e-next before-next
-    after-at =
-        (row-then c before (λ y. y .next ≡ e) b (λ _ _. refl) (λ _ q. absurd (apart q)) (λ ne _. absurd (ne refl refl)),
-        row-then c e (λ y. y .next ≡ entryAt z es c before .next) e-in (λ _ q. absurd (apart (sym q))) (λ _ _. refl) (λ _ ne. absurd (ne refl refl)))
+    after-at = (
+      row-then c before (λ y. y .next ≡ e) b (λ _ _. refl) (λ _ q. absurd (apart q)) (λ ne _. absurd (ne refl refl)),
+      row-then c e (λ y. y .next ≡ entryAt z es c before .next) e-in (λ _ q. absurd (apart (sym q))) (λ _ _. refl) (λ _ ne. absurd (ne refl refl)),
+    )
 
     module _ (f : ChunkNo) where
       after-other : f ≢ c → (chunkAt cs f .head ≡ chunkAt cs f .head) × ((x : EntryNo) → x .0 < z .entries → entryAt z entries₂ f x .next ≡ entryAt z es f x .next)
@@ -250,6 +258,7 @@ module _ (z : Sizes) (lim : Limited z) (d : Directory) (cs : List Chunk) (es : L
       where
         over : chunkAt cs c .used ≤ e .0 → ⊥
         over le = omega (arith, w .used)
+
         at-e : f ≡ c → x ≡ e → SlotRight z (chunkAt cs f .used) (x .0) (withNext (entryAt z es c e) (chunkAt cs c .head))
         at-e p q =
             rw (p, q)

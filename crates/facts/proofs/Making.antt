@@ -90,6 +90,7 @@ module _ (z : Sizes) (lim : Limited z) (first : ChunkNo) (cs : List Chunk) (es :
         where
           never : length l ≤ e .0 → ⊥
           never le = omega arith
+
       past : length l ≤ e .0 → SlotRight z (length l) (e .0) (entryAt z madeEntries c e)
       past ge = rw (filled-other z c b 0 l es c e fits (h .entries-sized) be (λ _. inr (rw zero-add ge)), blank) (record { handle = λ _. number-none (z .handles); next = λ _. number-none (z .entries); empty = λ _. refl })
         where

@@ -33,6 +33,7 @@ held-one how size n le ne h = ltb-true n size (rw (one) at h)
   where
     not-zero : how ≢ 0
     not-zero = eqb-false how 0 ne
+
     one : how ≡ 1
     one = omega (arith, not-zero)
 

@@ -46,6 +46,7 @@ module _ (z : Sizes) (lim : Limited z) (first : ChunkNo) (cs : List Chunk) (es :
     where
       c : Chained z first cs
       c = h .chained
+
       out : chunkAt cs f .next .0 ≡ NONE → ⊥
       out e = omega (arith, lim .chunks)
 
@@ -98,6 +99,7 @@ module _ (z : Sizes) (lim : Limited z) (first : ChunkNo) (cs : List Chunk) (es :
       where
         g : Chained z first cs
         g = h .chained
+
         none-of : (y : Chunk) → y .status ≢ live → one live y ≡ 0
         none-of y ne = rw (ne-eqb (y .status) live ne)
 
@@ -113,6 +115,7 @@ module _ (z : Sizes) (lim : Limited z) (first : ChunkNo) (cs : List Chunk) (es :
       where
         other : (f : ChunkNo) → f .0 < z .chunks → f ≢ c → ListRight z (set cs (c .0) x) es′ f
         other f bf ne = record { row = rw (put-other f ne) (h .lists f bf .row); slot = λ e be. rw (put-other f ne, rows f e ne be) (h .lists f bf .slot e be); links = put-list f bf ne .1 }
+
         ranged : (f : ChunkNo) → f .0 < z .chunks → f ≢ c → chunkAt cs f .status ≡ live → Every (λ e. InRange z (set cs (c .0) x) f (entryAt z es′ f e .key)) (listed z (set cs (c .0) x) es′ f)
         ranged f bf ne l = put-keys (InRange z (set cs (c .0) x) f) f bf ne (λ e m. put-range f (entryAt z es f e .key) bf l (h .key-in-range f bf l e m))
 

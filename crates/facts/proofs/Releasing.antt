@@ -111,15 +111,19 @@ module _ (z : Sizes) (lim : Limited z) (s : Tables) (kept : Kept z s) (releasing
     where
       none : NONE ≡ f .0 → ⊥
       none e = omega (arith, lim .chunks)
+
       r : Roles (s .directory) (f .0) (chunk s f)
       r = q .roles f b
+
       other : f ≢ old → chunkAt cs f ≡ chunk s f
       other ne = put-other z lim (s .directory .first) (s .chunks) (s .entries) base old emptyChunk es old-in was zero-one len rows f ne
+
       kept-role : f ≢ old → (chunkAt cs f .frozen ≡ 0) × ((chunkAt cs f .status ≡ unused) ⊎ (chunkAt cs f .status ≡ live))
       kept-role ne = rw (other ne) (elim (ℕ-discrete (s .directory .new .0) (f .0)) [ yes e ↦ is-new (inl e) | no n1 ↦ elim (ℕ-discrete (s .directory .second .0) (f .0)) [ yes e ↦ is-new (inr e) | no n2 ↦ r .other not-old n1 n2 ] ])
         where
           not-old : s .directory .old .0 ≢ f .0
           not-old e = ne (sym (ap chunkNo e))
+
           is-new : (s .directory .new .0 ≡ f .0) ⊎ (s .directory .second .0 ≡ f .0) → (chunk s f .frozen ≡ 0) × ((chunk s f .status ≡ unused) ⊎ (chunk s f .status ≡ live))
           is-new o = (r .new not-old o .0, inr (r .new not-old o .1 ∙ rw releasing))
 
@@ -133,24 +137,27 @@ module _ (z : Sizes) (lim : Limited z) (s : Tables) (kept : Kept z s) (releasing
         marks-sized = kept .marks-sized;
         marks = kept .marks;
         tables =
-          record {
-            chunks-sized = released .chunks-sized;
-            entries-sized = released .entries-sized;
-            lists = released .lists;
-            chained = released .chained;
-            key-in-range = released .key-in-range;
-            rebalancing = record { known = omega arith; none = λ _. refl; unmade = λ _. (refl, refl); old = λ b. absurd (late b); room = λ b _. absurd (late b); new = λ b. absurd (later b); second = λ b. absurd (later b); apart = λ b. absurd (later b); old-new = λ b. absurd (later b); old-second = λ b. absurd (later b); roles = roles };
-            made = λ e. absurd (three e);
-          };
+            record {
+              chunks-sized = released .chunks-sized;
+              entries-sized = released .entries-sized;
+              lists = released .lists;
+              chained = released .chained;
+              key-in-range = released .key-in-range;
+              rebalancing = record { known = omega arith; none = λ _. refl; unmade = λ _. (refl, refl); old = λ b. absurd (late b); room = λ b _. absurd (late b); new = λ b. absurd (later b); second = λ b. absurd (later b); apart = λ b. absurd (later b); old-new = λ b. absurd (later b); old-second = λ b. absurd (later b); roles = roles };
+              made = λ e. absurd (three e);
+            };
         tasks = λ n. put-task z lim (s .directory .first) (s .chunks) (s .entries) base old emptyChunk es old-in was zero-one len rows (task s n) (λ e. none-holds (s .tasks) old n free old-some (ap (λ (c : ChunkNo). c .0) e)) (kept .tasks n);
       })
     where
       late : 1 ≤ 0 → ⊥
       late b = omega arith
+
       later : 3 ≤ 0 → ⊥
       later b = omega arith
+
       three : _≡_ {A = ℕ} 0 3 → ⊥
       three e = omega arith
+
       old-some : s .directory .old .0 ≢ NONE
       old-some e = omega (arith, lim .chunks, old-in)
 

@@ -102,8 +102,10 @@ module _ (z : Sizes) (cs cs′ : List Chunk) (same : Same cs cs′) where
       where
         in-range : KeyInRange z cs′ es′
         in-range c b l = ⊎-elim (λ q. quiet-keys (InRange z cs′ c) c q (λ e m. range-kept c _ (h .key-in-range c b (sym (same .status c) ∙ l) e m))) (λ g e m. range-kept c _ (g .1 (sym (same .status c) ∙ l) e m)) (lists-so c b)
+
         quiet : (c : ChunkNo) → c .0 < z .chunks → chunkAt cs c .status ≡ new → Quiet c
         quiet c b e = ⊎-elim (λ q. q) (λ g. absurd (g .0 e)) (lists-so c b)
+
         made-kept : d .stage ≡ toSwap → Made z d cs es → Made z d cs′ es′
         made-kept e m =
             record {
@@ -118,10 +120,13 @@ module _ (z : Sizes) (cs cs′ : List Chunk) (same : Same cs cs′) where
           where
             r : Rebalancing z d cs
             r = h .rebalancing
+
             late : toSwap ≤ d .stage
             late = omega arith
+
             first : Quiet (d .new)
             first = quiet (d .new) (r .new late) (r .roles (d .new) (r .new late) .new (r .old-new late) (inl refl) .1 ∙ rw e)
+
             second : d .second .0 < z .chunks → Quiet (d .second)
             second b = quiet (d .second) b (r .roles (d .second) b .new (r .old-second late) (inr refl) .1 ∙ rw e)
 
@@ -148,7 +153,9 @@ list-quiet z lim cs cs′ es es′ c h head used small rows = (seen, rw seen lin
   where
     l : List EntryNo
     l = listed z cs es c
+
     links : Links z es′ c (chunkAt cs′ c .used) 0 (chunkAt cs′ c .head) l
     links = rw head (links-frame z es es′ c (chunkAt cs c .used) (chunkAt cs′ c .used) 0 (chunkAt cs c .head) l used (h .links) rows)
+
     seen : listed z cs′ es′ c ≡ l
     seen = links-view z es′ c (chunkAt cs′ c .used) small (lim .entries) (z .entries) 0 (chunkAt cs′ c .head) l (le-trans (links-length z es′ c (chunkAt cs′ c .used) 0 (chunkAt cs′ c .head) l links) small) links

@@ -68,6 +68,7 @@ module _ (z : Sizes) (lim : Limited z) (s : Tables) (kept : Kept z s) where
     where
       many : length (slotsOf z (s .entries) c) ≤ z .entries
       many = rw length-take (omega arith)
+
       at : (i : ℕ) → i < length (slotsOf z (s .entries) c) → slotRight z s (chunk s c .used) (0 + i) (getD (slotsOf z (s .entries) c) i emptyEntry) ≡ true
       at i d = rw (zero-add i, getD-take (z .entries) (drop (c .0 * z .entries) (s .entries)) i emptyEntry (le-trans d many), getD-drop (c .0 * z .entries) (s .entries) i emptyEntry) (slot-right c b i (le-trans d many))
 
@@ -76,6 +77,7 @@ module _ (z : Sizes) (lim : Limited z) (s : Tables) (kept : Kept z s) where
     where
       links : Links z (s .entries) c (chunk s c .used) 0 (chunk s c .head) (listed z (s .chunks) (s .entries) c)
       links = tables .lists c b .links
+
       small : chunk s c .used ≤ z .entries
       small = tables .lists c b .row .used
 
@@ -102,6 +104,7 @@ module _ (z : Sizes) (lim : Limited z) (s : Tables) (kept : Kept z s) where
     where
       c : Chained z (s .directory .first) (s .chunks)
       c = tables .chained
+
       short : length (s .directory .first ∷ c .rest) ≤ z .chunks
       short = chain-short z (s .chunks) (s .directory .first) (tables .chunks-sized) c
 
@@ -113,13 +116,16 @@ module _ (z : Sizes) (lim : Limited z) (s : Tables) (kept : Kept z s) where
     where
       roles : Roles (s .directory) i (chunk s (chunkNo i))
       roles = tables .rebalancing .roles (chunkNo i) b
+
       Fits : Type 0
       Fits = (eqb (chunk s (chunkNo i) .frozen) 0 and pick (eqb (s .directory .new .0) i or eqb (s .directory .second .0) i) (eqb (chunk s (chunkNo i) .status) (pick (eqb (s .directory .stage) toRelease) live new)) (eqb (chunk s (chunkNo i) .status) unused or eqb (chunk s (chunkNo i) .status) live)) ≡ true
+
       is-new : s .directory .old .0 ≢ i → (eqb (s .directory .new .0) i or eqb (s .directory .second .0) i) ≡ true → Fits
       is-new ne t = rw (t, role .0, role .1) (eq-eqb (pick (eqb (s .directory .stage) toRelease) live new) (pick (eqb (s .directory .stage) toRelease) live new) refl)
         where
           role : (chunk s (chunkNo i) .frozen ≡ 0) × (chunk s (chunkNo i) .status ≡ pick (eqb (s .directory .stage) toRelease) live new)
           role = roles .new ne (⊎-map (eqb-true (s .directory .new .0) i) (eqb-true (s .directory .second .0) i) (or-cases (eqb (s .directory .new .0) i) (eqb (s .directory .second .0) i) t))
+
       is-other : s .directory .old .0 ≢ i → (eqb (s .directory .new .0) i or eqb (s .directory .second .0) i) ≡ false → Fits
       is-other ne t = rw (t, role .0) (⊎-elim (λ q. rw q) (λ q. rw q) (role .1))
         where
@@ -131,16 +137,21 @@ module _ (z : Sizes) (lim : Limited z) (s : Tables) (kept : Kept z s) where
     where
       d : Directory
       d = s .directory
+
       r : Rebalancing z d (s .chunks)
       r = tables .rebalancing
+
       Stages : ℕ → Type 0
       Stages n = pick (eqb n idle) (isNone (d .old .0) and isNone (d .new .0) and isNone (d .second .0))
           (pick (eqb n toDrain or eqb n toCopy) ((isNone (d .new .0) and isNone (d .second .0)) and ltb (d .old .0) (z .chunks) and leb 2 (unusedCount (s .chunks)))
           (pick (eqb n toSwap or eqb n toRelease) (ltb (d .old .0) (z .chunks) and ltb (d .new .0) (z .chunks) and numbers (z .chunks) (d .second .0) and not (eqb (d .new .0) (d .second .0))) false)) ≡ true
+
       before : 1 ≤ d .stage → d .stage ≤ 2 → ((isNone (d .new .0) and isNone (d .second .0)) and ltb (d .old .0) (z .chunks) and leb 2 (unusedCount (s .chunks))) ≡ true
       before a b = rw (r .unmade b .0, r .unmade b .1, lt-ltb (d .old .0) (z .chunks) (r .old a), le-leb 2 (unusedCount (s .chunks)) (r .room a b))
+
       after : 3 ≤ d .stage → (ltb (d .old .0) (z .chunks) and ltb (d .new .0) (z .chunks) and numbers (z .chunks) (d .second .0) and not (eqb (d .new .0) (d .second .0))) ≡ true
       after a = rw (lt-ltb (d .old .0) (z .chunks) (r .old (omega arith)), lt-ltb (d .new .0) (z .chunks) (r .new a), r .second a, ne-eqb (d .new .0) (d .second .0) (r .apart a))
+
       at : (n : ℕ) → d .stage ≡ n → n ≤ 4 → Stages n
       at zero e b = rw (r .none e, r .unmade (omega arith) .0, r .unmade (omega arith) .1)
       at (suc zero) e b = before (omega arith) (omega arith)
@@ -151,6 +162,7 @@ module _ (z : Sizes) (lim : Limited z) (s : Tables) (kept : Kept z s) where
         where
           over : (n : ℕ) → suc (suc (suc (suc (suc n)))) ≤ 4 → ⊥
           over n b = omega arith
+
       stages : Stages (d .stage)
       stages = at (d .stage) refl (r .known)
 
@@ -159,8 +171,10 @@ module _ (z : Sizes) (lim : Limited z) (s : Tables) (kept : Kept z s) where
     where
       t : Task
       t = task s n
+
       links : Links z (s .entries) (t .chunk) (chunk s (t .chunk) .used) 0 (chunk s (t .chunk) .head) (listed z (s .chunks) (s .entries) (t .chunk))
       links = tables .lists (t .chunk) (held .inside) .links
+
       small : chunk s (t .chunk) .used ≤ z .entries
       small = tables .lists (t .chunk) (held .inside) .row .used
 
@@ -172,25 +186,34 @@ module _ (z : Sizes) (lim : Limited z) (s : Tables) (kept : Kept z s) where
     where
       t : Task
       t = task s n
+
       h : Hold
       h = holdAt (t .stage)
+
       row : (leb (h .chunk) 1 and leb (h .entry) (h .chunk)) ≡ true
       row = all-at (λ h. leb (h .chunk) 1 and leb (h .entry) (h .chunk)) stageList (t .stage) (hold 0 0 0 0 0 0) rows-right refl
+
       chunk-row : h .chunk ≤ 1
       chunk-row = leb-true (h .chunk) 1 (and-left (leb (h .chunk) 1) (leb (h .entry) (h .chunk)) row)
+
       entry-row : h .entry ≤ h .chunk
       entry-row = leb-true (h .entry) (h .chunk) (and-right (leb (h .chunk) 1) (leb (h .entry) (h .chunk)) row)
+
       at-chunk : eqb (h .chunk) 0 ≡ false → Holds z t h → t .chunk .0 < z .chunks
       at-chunk e w = held-one (h .chunk) (z .chunks) (t .chunk .0) chunk-row e (w .chunk)
+
       lives : t .chunk .0 < z .chunks → 0 < chunk s (t .chunk) .status
       lives b = ⊎-elim (λ q. rw q (omega arith)) (λ q. rw (q .0) (omega arith)) (kept .tasks n .chunk-of-key b)
+
       in-use : Holds z t h → pick (eqb (h .chunk) 0) true (ltb 0 (chunk s (t .chunk) .status)) ≡ true
       in-use w = picked (λ (b : Bool). b ≡ true) (eqb (h .chunk) 0) (λ _. refl) (λ e. lt-ltb 0 (chunk s (t .chunk) .status) (lives (at-chunk e w)))
+
       there : Holds z t h → pick (eqb (h .entry) 0) true (holdsEntry z s t) ≡ true
       there w = picked (λ (b : Bool). b ≡ true) (eqb (h .entry) 0) (λ _. refl) (λ e. holds-entry n (held e))
         where
           held : eqb (h .entry) 0 ≡ false → EntryHeld z (s .chunks) (s .entries) (t .chunk) (t .entry) (t .key) (t .stage)
           held e = kept .tasks n .entry (held-one (h .entry) (z .entries) (t .entry .0) (le-trans entry-row chunk-row) e (w .entry))
+
       busy : Holds z t h → (fitsOperation (t .operation) (t .stage) and pick (usesFunction (t .operation)) (leb 1 (t .function) and leb (t .function) 3) true and holdsRight z s t h) ≡ true
       busy w = both _ _ (w .fits) (both _ _ (w .function) (both _ _ (w .chunk) (both _ _ (w .entry) (both _ _ (w .old) (both _ _ (w .new) (both _ _ (w .published) (both _ _ (w .swapped) (both _ _ (in-use w) (there w)))))))))
 

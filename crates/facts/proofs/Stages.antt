@@ -106,9 +106,12 @@ module _ (z : Sizes) (lim : Limited z) (s : Tables) (h : Tabled z (s .directory)
       let H = Going.holds-at z lim s h t r 5 e (omega arith) in
       picked (Fine z s) (eqb (mark s (t .old)) 0)
       (λ _. picked (Fine z s) (eqb (t .operation) remove)
-      (λ g. record { allowed = tt; task = λ ts. Going.row-right z lim s h t r 16 noChunk noEntry (t .old) noHandle 0 0 (omega arith)
-      (record { fits = Going.fit z lim s h t r 5 16 (λ op. eqb op remove) refl e (omega arith) g; function = H .function; chunk = refl; entry = refl; old = H .old; new = refl; published = refl; swapped = refl })
-      (Going.no-chunk z lim s h _) (Going.no-entry z lim s h _) })
+      (λ g. record {
+        allowed = tt;
+        task = λ ts. Going.row-right z lim s h t r 16 noChunk noEntry (t .old) noHandle 0 0 (omega arith)
+            (record { fits = Going.fit z lim s h t r 5 16 (λ op. eqb op remove) refl e (omega arith) g; function = H .function; chunk = refl; entry = refl; old = H .old; new = refl; published = refl; swapped = refl })
+            (Going.no-chunk z lim s h _) (Going.no-entry z lim s h _);
+      })
       (λ _. picked (Fine z s) (eqb (t .operation) put) (λ _. Going.finished z lim s h t r _ _ tt) (λ _. Going.finished z lim s h t r _ _ tt)))
       (λ _. picked (Fine z s) (inserts (t .operation))
       (λ _. Going.restarted z lim s h t r _ (rw e (omega arith)) (Going.fit z lim s h t r 5 1 (λ op. true) refl e (omega arith) refl))
@@ -126,12 +129,15 @@ module _ (z : Sizes) (lim : Limited z) (s : Tables) (h : Tabled z (s .directory)
       let b : t .chunk .0 < z .chunks = ltb-true _ _ (H .chunk) in
       picked (Fine z s) (eqb (chunk s (t .chunk) .frozen) 0)
       (λ _. picked (Fine z s) (ltb (chunk s (t .chunk) .used) (z .entries))
-      (λ i. record { allowed = (b, in-use b .0, ltb-true _ _ i); task = λ ts. record {
-        idle = λ q. absurd (seven q);
-        holds = λ _. record { fits = Going.fit z lim s h t r 6 7 (λ op. true) refl e (omega arith) refl; function = H .function; chunk = H .chunk; entry = i; old = refl; new = refl; published = refl; swapped = refl };
-        chunk-of-key = slot-written z lim (s .directory) (s .chunks) (s .entries) h (t .chunk) (t .key) b (in-use b .0) (ltb-true _ _ i) .tasks t r .chunk-of-key;
-        entry = λ _. slot-held z lim (s .directory) (s .chunks) (s .entries) h (t .chunk) (t .key) b (in-use b .0) (ltb-true _ _ i);
-      } })
+      (λ i. record {
+        allowed = (b, in-use b .0, ltb-true _ _ i);
+        task = λ ts. record {
+          idle = λ q. absurd (seven q);
+          holds = λ _. record { fits = Going.fit z lim s h t r 6 7 (λ op. true) refl e (omega arith) refl; function = H .function; chunk = H .chunk; entry = i; old = refl; new = refl; published = refl; swapped = refl };
+          chunk-of-key = slot-written z lim (s .directory) (s .chunks) (s .entries) h (t .chunk) (t .key) b (in-use b .0) (ltb-true _ _ i) .tasks t r .chunk-of-key;
+          entry = λ _. slot-held z lim (s .directory) (s .chunks) (s .entries) h (t .chunk) (t .key) b (in-use b .0) (ltb-true _ _ i);
+        };
+      })
       (λ _. Going.restarted z lim s h t r _ (rw e (omega arith)) (Going.fit z lim s h t r 6 1 (λ op. true) refl e (omega arith) refl)))
       (λ _. Going.restarted z lim s h t r _ (rw e (omega arith)) (Going.fit z lim s h t r 6 1 (λ op. true) refl e (omega arith) refl))
     where
@@ -146,8 +152,10 @@ module _ (z : Sizes) (lim : Limited z) (s : Tables) (h : Tabled z (s .directory)
       where
         b : t .chunk .0 < z .chunks
         b = ltb-true _ _ (H .chunk)
+
         x : EntryHeld z (s .chunks) (s .entries) (t .chunk) (t .entry) (t .key) (t .stage)
         x = r .entry (ltb-true _ _ (H .entry))
+
         neither : chunk s (t .chunk) .status ≡ live → chunk s (t .chunk) .status ≡ retired → ⊥
         neither l p = omega arith
 
@@ -162,12 +170,15 @@ module _ (z : Sizes) (lim : Limited z) (s : Tables) (h : Tabled z (s .directory)
     pub links-new-fine : Fine z s (Stages.moves (Stages.keeps t 8) (write.Link (t .chunk) (t .entry) (place z s (t .chunk) (t .key))))
     links-new-fine =
         let H = Going.holds-at z lim s h t r 7 e (omega arith) in
-        record { allowed = (t .key, waiting H); task = λ ts. record {
-          idle = λ q. absurd (eight q);
-          holds = λ _. record { fits = Going.fit z lim s h t r 7 8 (λ op. true) refl e (omega arith) refl; function = H .function; chunk = H .chunk; entry = H .entry; old = rw (eqb-true (t .old .0) NONE (H .old)) (number-none (z .handles)); new = H .new; published = H .published; swapped = H .swapped };
-          chunk-of-key = applied-by z lim (withTasks s ts) h (write.Link (t .chunk) (t .entry) (place z s (t .chunk) (t .key))) (t .key, waiting H) .written .tasks t r .chunk-of-key;
-          entry = linked-then ts H 8;
-        } }
+        record {
+          allowed = (t .key, waiting H);
+          task = λ ts. record {
+            idle = λ q. absurd (eight q);
+            holds = λ _. record { fits = Going.fit z lim s h t r 7 8 (λ op. true) refl e (omega arith) refl; function = H .function; chunk = H .chunk; entry = H .entry; old = rw (eqb-true (t .old .0) NONE (H .old)) (number-none (z .handles)); new = H .new; published = H .published; swapped = H .swapped };
+            chunk-of-key = applied-by z lim (withTasks s ts) h (write.Link (t .chunk) (t .entry) (place z s (t .chunk) (t .key))) (t .key, waiting H) .written .tasks t r .chunk-of-key;
+            entry = linked-then ts H 8;
+          };
+        }
       where
         eight : _≡_ {A = ℕ} 8 0 → ⊥
         eight q = omega arith
@@ -188,18 +199,24 @@ module _ (z : Sizes) (lim : Limited z) (s : Tables) (h : Tabled z (s .directory)
   takes-handle-fine e =
       let H = Going.holds-at z lim s h t r 8 e (omega arith) in
       picked (Fine z s) (ltb (lowestFree z s .0) (z .handles))
-      (λ i. record { allowed = tt; task = λ ts. Going.row-right z lim s h t r 9 (t .chunk) (t .entry) (t .old) (lowestFree z s) 0 0 (omega arith)
-      (record { fits = Going.fit z lim s h t r 8 9 (λ op. true) refl e (omega arith) refl; function = H .function; chunk = H .chunk; entry = H .entry; old = H .old; new = i; published = refl; swapped = refl })
-      (r .chunk-of-key) (Going.entry-at z lim s h t r 8 e (omega arith) 9) })
+      (λ i. record {
+        allowed = tt;
+        task = λ ts. Going.row-right z lim s h t r 9 (t .chunk) (t .entry) (t .old) (lowestFree z s) 0 0 (omega arith)
+            (record { fits = Going.fit z lim s h t r 8 9 (λ op. true) refl e (omega arith) refl; function = H .function; chunk = H .chunk; entry = H .entry; old = H .old; new = i; published = refl; swapped = refl })
+            (r .chunk-of-key) (Going.entry-at z lim s h t r 8 e (omega arith) 9);
+      })
       (λ _. Going.finished z lim s h t r _ _ tt)
 
   -- ---- 9 write
   pub writes-fine : t .stage ≡ 9 → Fine z s (Stages.writes z s t)
   writes-fine e =
       let H = Going.holds-at z lim s h t r 9 e (omega arith) in
-      record { allowed = tt; task = λ ts. Going.row-right z lim s h t r 10 (t .chunk) (t .entry) (t .old) (t .new) (t .published) (t .swapped) (omega arith)
-      (record { fits = Going.fit z lim s h t r 9 10 (λ op. true) refl e (omega arith) refl; function = H .function; chunk = H .chunk; entry = H .entry; old = H .old; new = H .new; published = H .published; swapped = H .swapped })
-      (r .chunk-of-key) (Going.entry-at z lim s h t r 9 e (omega arith) 10) }
+      record {
+        allowed = tt;
+        task = λ ts. Going.row-right z lim s h t r 10 (t .chunk) (t .entry) (t .old) (t .new) (t .published) (t .swapped) (omega arith)
+            (record { fits = Going.fit z lim s h t r 9 10 (λ op. true) refl e (omega arith) refl; function = H .function; chunk = H .chunk; entry = H .entry; old = H .old; new = H .new; published = H .published; swapped = H .swapped })
+            (r .chunk-of-key) (Going.entry-at z lim s h t r 9 e (omega arith) 10);
+      }
 
   -- ---- 10, 13, 19 publish
   pub publishes-fine : (t .stage ≡ 10) ⊎ ((t .stage ≡ 13) ⊎ (t .stage ≡ 19)) → Fine z s (Stages.publishes z s t)

@@ -137,10 +137,13 @@ module _ (z : Sizes) (lim : Limited z) (s : Tables) (kept : Kept z s) (swapping 
       where
         out : z .chunks ≤ b .0
         out = rw e (lim .chunks)
+
         one-new : length (newOnes z (s .directory)) ≡ 1
         one-new = rw (le-ltb (b .0) (z .chunks) out)
+
         no : b .0 < z .chunks → ⊥
         no i = omega (arith, out)
+
         in-old : old .0 < length cs₂
         in-old = rw length-set (many old old-in)
 
@@ -161,10 +164,13 @@ module _ (z : Sizes) (lim : Limited z) (s : Tables) (kept : Kept z s) (swapping 
       where
         two-new : length (newOnes z (s .directory)) ≡ 2
         two-new = rw (lt-ltb (b .0) (z .chunks) i)
+
         in-b : b .0 < length cs₂
         in-b = rw length-set (many b i)
+
         in-old : old .0 < length cs₃
         in-old = rw (length-set cs₂ (b .0) row-b, length-set cs (a .0) row-a) (many old old-in)
+
         at-b : chunkAt cs₂ b ≡ chunk s b
         at-b = put-ne cs a row-a b (λ r. a-b (sym r)) ∙ w .other b (λ ne r. p-b ne i (sym r))
 

@@ -183,8 +183,8 @@ module _ (z : Sizes) (lim : Limited z) (s : Tables) (kept : Kept z s) (swapping 
         record {
           from = rw (alike f i .0) (r .from);
           to = row-is f (λ y. y .next .0 < z .chunks → k < chunkAt cs (y .next) .min) i (λ e. absurd (ne e))
-            (λ e. absurd (unlike f a l (a-role .1) (omega arith) e)) (λ e. absurd (unlike f b l (b-new (rw (← e) i)) (omega arith) e))
-            (λ nf e _. rw (alike a a-in .0, m .first-min) (before-it nf e)) (λ _ _ _ j. rw (alike (chunk s f .next) j .0) (r .to j));
+              (λ e. absurd (unlike f a l (a-role .1) (omega arith) e)) (λ e. absurd (unlike f b l (b-new (rw (← e) i)) (omega arith) e))
+              (λ nf e _. rw (alike a a-in .0, m .first-min) (before-it nf e)) (λ _ _ _ j. rw (alike (chunk s f .next) j .0) (r .to j));
         }
       where
         before-it : first ≢ old → f ≡ p → k < chunk s old .min
@@ -199,6 +199,7 @@ module _ (z : Sizes) (lim : Limited z) (s : Tables) (kept : Kept z s) (swapping 
       where
         Next : ChunkNo → Type 0
         Next n = n .0 < z .chunks → k < chunkAt cs n .min
+
         by-second : (b .0 < z .chunks) ⊎ (b .0 ≡ NONE) → Next (pick (ltb (b .0) (z .chunks)) b (chunk s old .next))
         by-second (inl i) = rw (lt-ltb (b .0) (z .chunks) i) (λ _. rw (alike b i .0) (below i))
         by-second (inr e) = rw (le-ltb (b .0) (z .chunks) (rw e (lim .chunks))) (past-old k r)
@@ -221,8 +222,10 @@ module _ (z : Sizes) (lim : Limited z) (s : Tables) (kept : Kept z s) (swapping 
       where
         one : _≡_ {A = ℕ} 1 0 → ⊥
         one e = omega arith
+
         three : _≡_ {A = ℕ} 3 0 → ⊥
         three e = omega arith
+
         next-first : numbers (z .chunks) ((pick (ltb (b .0) (z .chunks)) b (chunk s old .next)) .0) ≡ true
         next-first = picked (λ (n : ChunkNo). numbers (z .chunks) (n .0) ≡ true) (ltb (b .0) (z .chunks)) (λ t. q .second late) (λ t. h .lists old old-in .row .next)
 
@@ -234,6 +237,7 @@ module _ (z : Sizes) (lim : Limited z) (s : Tables) (kept : Kept z s) (swapping 
       where
         n′ : List·Memᴰ x (listed z (s .chunks) (s .entries) f)
         n′ = rw (quiet f i .0) at n
+
         go : (f ≡ a) ⊎ (((b .0 < z .chunks) × (f ≡ b)) ⊎ ((f ≢ old) × (chunk s f .status ≡ live))) → InRange z cs f (entryAt z (s .entries) f x .key)
         go (inl e) = rw e (range-first (entryAt z (s .entries) a x .key) (m .first-keys x (rw e at n′)) (λ j. m .first-below j x (rw e at n′)))
         go (inr (inl e)) = rw (e .1) (range-second (entryAt z (s .entries) b x .key) (e .0) (m .second-keys (e .0) x (rw (e .1) at n′)) (m .second-from (e .0) x (rw (e .1) at n′)))
@@ -252,16 +256,23 @@ module _ (z : Sizes) (lim : Limited z) (s : Tables) (kept : Kept z s) (swapping 
       where
         least : chunkAt cs a .min ≡ chunk s old .min
         least = alike a a-in .0 ∙ m .first-min
+
         by-second : (b .0 < z .chunks) ⊎ (b .0 ≡ NONE) → Chain z cs lo a (news ++ r)
         by-second (inl i) =
-            rw (lt-ltb (b .0) (z .chunks) i)
-            (refl, a-in, new-live .0, rw least le,
-            (to-second, i, new-live .1 i, rw (least, alike b i .0) (more (m .second-min i)), rw (alike b i .0, second-next) (chain-raise z cs (chunk s old .min + 1) (chunk s b .min + 1) (chunk s old .next) r on (λ j. rw (alike (chunk s old .next) j .0) (more (m .second-in i .to j))))))
+            rw (lt-ltb (b .0) (z .chunks) i) (
+              refl,
+              a-in,
+              new-live .0,
+              rw least le,
+              (to-second, i, new-live .1 i, rw (least, alike b i .0) (more (m .second-min i)), rw (alike b i .0, second-next) (chain-raise z cs (chunk s old .min + 1) (chunk s b .min + 1) (chunk s old .next) r on (λ j. rw (alike (chunk s old .next) j .0) (more (m .second-in i .to j))))),
+            )
           where
             to-second : chunkAt cs a .next ≡ b
             to-second = ap (λ (y : Chunk). y .next) (w .new) ∙ rw (lt-ltb (b .0) (z .chunks) i)
+
             second-next : chunkAt cs b .next ≡ chunk s old .next
             second-next = ap (λ (y : Chunk). y .next) (w .second i)
+
             more : {j k : ℕ} → j < k → j + 1 ≤ k
             more lt = omega arith
         by-second (inr e) = rw (le-ltb (b .0) (z .chunks) (rw e (lim .chunks))) (refl, a-in, new-live .0, rw least le, rw (least, first-next) on)
@@ -297,6 +308,7 @@ module _ (z : Sizes) (lim : Limited z) (s : Tables) (kept : Kept z s) (swapping 
               where
                 ne : x ≢ old
                 ne r = chain-apart z (s .chunks) 0 first (first ∷ c .rest) (c .chain) .0 x n (ap (λ (c : ChunkNo). c .0) (e ∙ sym r))
+
         later : first ≢ old → Chain z cs 0 start (replaced old news (first ∷ c .rest))
         later ne =
             rw (ne-eqb (first .0) (old .0) (λ e. ne (ap chunkNo e)))
@@ -322,6 +334,7 @@ module _ (z : Sizes) (lim : Limited z) (s : Tables) (kept : Kept z s) (swapping 
       where
         at-first : first ≡ old → chunkAt cs start .min ≡ 0
         at-first e = rw (eq-eqb (first .0) (old .0) (ap (λ (c : ChunkNo). c .0) e)) (alike a a-in .0 ∙ m .first-min ∙ ap (λ (c : ChunkNo). chunk s c .min) (sym e) ∙ c .from)
+
         later : first ≢ old → chunkAt cs start .min ≡ 0
         later ne = rw (ne-eqb (first .0) (old .0) (λ e. ne (ap chunkNo e))) (alike first (chain-live z (s .chunks) 0 first (first ∷ c .rest) (c .chain) first (List·Memᴰ·head refl) .0) .0 ∙ c .from)
 
@@ -342,8 +355,10 @@ module _ (z : Sizes) (lim : Limited z) (s : Tables) (kept : Kept z s) (swapping 
       where
         at-old : f ≡ old → (chunkAt cs f .frozen ≡ 1) × (chunkAt cs f .status ≡ retired)
         at-old e = (alike f i .3 ∙ ap (λ (c : ChunkNo). chunk s c .frozen) e ∙ old-role .0, ap (λ (c : ChunkNo). chunkAt cs c .status) e ∙ ap (λ (y : Chunk). y .status) (w .old))
+
         frozen-new : old .0 ≢ f .0 → (a .0 ≡ f .0) ⊎ (b .0 ≡ f .0) → chunkAt cs f .frozen ≡ 0
         frozen-new ne o = alike f i .3 ∙ q .roles f i .new ne o .0
+
         status-other : old .0 ≢ f .0 → a .0 ≢ f .0 → b .0 ≢ f .0 → (chunkAt cs f .status ≡ unused) ⊎ (chunkAt cs f .status ≡ live)
         status-other n1 n2 n3 =
             row-is f (λ y. (y .status ≡ unused) ⊎ (y .status ≡ live)) i (λ e. absurd (n1 (ap (λ (c : ChunkNo). c .0) (sym e)))) (λ _. inr refl) (λ _. inr refl) (λ r _. inr (p-live r .1)) (λ _ _ _. q .roles f i .other n1 n2 n3 .1)
@@ -353,10 +368,12 @@ module _ (z : Sizes) (lim : Limited z) (s : Tables) (kept : Kept z s) (swapping 
       where
         third : _≡_ {A = ℕ} 1 3 → ⊥
         third e = omega arith
+
         of-key : t .chunk .0 < z .chunks → (t .chunk ≡ old) ⊎ (t .chunk ≢ old) → ChunkOfKey z (s .chunks) (t .chunk) (t .key) → ChunkOfKey z cs (t .chunk) (t .key)
         of-key i (inl e) k = inl (ap (λ (c : ChunkNo). chunkAt cs c .status) e ∙ ap (λ (y : Chunk). y .status) (w .old))
         of-key i (inr ne) (inl e) = inl (row-is (t .chunk) (λ y. y .status ≡ retired) i (λ r. absurd (ne r)) (λ r. absurd (unlike (t .chunk) a e a-new (omega arith) r)) (λ r. absurd (unlike (t .chunk) b e (b-new (rw (← r) i)) (omega arith) r)) (λ nf r. absurd (unlike (t .chunk) p e (p-live nf .1) (omega arith) r)) (λ _ _ _. e))
         of-key i (inr ne) (inr e) = inr (stays-live (t .chunk) i (e .0) ne, range-kept (t .chunk) (t .key) i (e .0) ne (e .1))
+
         held : EntryHeld z (s .chunks) (s .entries) (t .chunk) (t .entry) (t .key) (t .stage) → EntryHeld z cs (s .entries) (t .chunk) (t .entry) (t .key) (t .stage)
         held y = record { inside = y .inside; used = rw (alike (t .chunk) (y .inside) .2) (y .used); keyed = y .keyed; linked = λ o. rw (quiet (t .chunk) (y .inside) .0) (y .linked o) }
 
@@ -368,21 +385,23 @@ module _ (z : Sizes) (lim : Limited z) (s : Tables) (kept : Kept z s) (swapping 
           marks-sized = kept .marks-sized;
           marks = kept .marks;
           tables =
-            record {
-              chunks-sized = w .sized ∙ h .chunks-sized;
-              entries-sized = h .entries-sized;
-              lists = list-right;
-              chained = chained-then;
-              key-in-range = in-range;
-              rebalancing = record { known = omega arith; none = λ e. absurd (four e); unmade = λ le. absurd (over le); old = λ _. old-in; room = λ _ le. absurd (over le); new = λ _. a-in; second = λ _. q .second late; apart = λ _. q .apart late; old-new = λ _. q .old-new late; old-second = λ _. q .old-second late; roles = roles };
-              made = λ e. absurd (three e);
-            };
+              record {
+                chunks-sized = w .sized ∙ h .chunks-sized;
+                entries-sized = h .entries-sized;
+                lists = list-right;
+                chained = chained-then;
+                key-in-range = in-range;
+                rebalancing = record { known = omega arith; none = λ e. absurd (four e); unmade = λ le. absurd (over le); old = λ _. old-in; room = λ _ le. absurd (over le); new = λ _. a-in; second = λ _. q .second late; apart = λ _. q .apart late; old-new = λ _. q .old-new late; old-second = λ _. q .old-second late; roles = roles };
+                made = λ e. absurd (three e);
+              };
           tasks = λ n. task-right (task s n) (kept .tasks n);
         }
       where
         four : _≡_ {A = ℕ} 4 0 → ⊥
         four e = omega arith
+
         three : _≡_ {A = ℕ} 4 3 → ⊥
         three e = omega arith
+
         over : 4 ≤ 2 → ⊥
         over le = omega arith

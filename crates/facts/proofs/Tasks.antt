@@ -49,6 +49,7 @@ module _ (z : Sizes) (lim : Limited z) (s : Tables) (kept : Kept z s) where
     where
       s′ : Tables
       s′ = Stages.apply z (putTask s n (x .task)) (x .write)
+
       a : Applied z (putTask s n (x .task)) s′
       a = applied-by z lim (putTask s n (x .task)) (kept .tables) (x .write) (fine .allowed)
 
@@ -64,8 +65,10 @@ module _ (z : Sizes) (lim : Limited z) (s : Tables) (kept : Kept z s) where
       where
         some : 0 < op
         some = ltb-false op 1 (or-left (ltb op 1) _ ok)
+
         few : op < 8
         few = omega (arith, ltb-false 7 op (or-left (ltb 7 op) _ (or-right (ltb op 1) _ ok)))
+
         go : (b : Bool) → b ≡ true → implies b (fitsOperation op (pick (eqb op scan) 22 1)) ≡ true → fitsOperation op (pick (eqb op scan) 22 1) ≡ true
         go true p q = q
         go false p q = absurd (false≢true p)
@@ -84,14 +87,15 @@ module _ (z : Sizes) (lim : Limited z) (s : Tables) (kept : Kept z s) where
         record {
           idle = λ q. absurd (picked (λ n. n ≡ 0 → ⊥) (eqb op scan) (λ _. scans) (λ _. one) q);
           holds = λ _. picked (λ n. fitsOperation op n ≡ true → Holds z (record { stage = n; operation = op; function = pick (usesFunction op) f 0; key = k; argument = pick (eqb op get or eqb op remove) 0 a; chunk = noChunk; entry = noEntry; old = noHandle; new = noHandle; published = 0; swapped = 0 }) (holdAt n)) (eqb op scan)
-            (λ _ fits. record { fits = fits; function = started-function; chunk = refl; entry = refl; old = refl; new = refl; published = refl; swapped = refl })
-            (λ _ fits. record { fits = fits; function = started-function; chunk = refl; entry = refl; old = refl; new = refl; published = refl; swapped = refl }) started-fits;
+              (λ _ fits. record { fits = fits; function = started-function; chunk = refl; entry = refl; old = refl; new = refl; published = refl; swapped = refl })
+              (λ _ fits. record { fits = fits; function = started-function; chunk = refl; entry = refl; old = refl; new = refl; published = refl; swapped = refl }) started-fits;
           chunk-of-key = no-chunk z lim s (kept .tables) _;
           entry = no-entry z lim s (kept .tables) _;
         }
       where
         scans : _≡_ {A = ℕ} 22 0 → ⊥
         scans q = omega arith
+
         one : _≡_ {A = ℕ} 1 0 → ⊥
         one q = omega arith
 
@@ -105,6 +109,7 @@ module _ (z : Sizes) (lim : Limited z) (s : Tables) (kept : Kept z s) where
     where
       K : Outcome → Type 0
       K o = Kept z (o .tables)
+
       put : (ltb op 1 or ltb 7 op or (usesFunction op and (ltb f 1 or ltb 3 f))) ≡ false → Kept z (putTask s n (started z s op k a f))
       put ok =
           record {

@@ -129,15 +129,19 @@ module _ (z : Sizes) (lim : Limited z) (d : Directory) (cs : List Chunk) (es : L
       where
         over : x .0 ≡ chunkAt cs c .used → chunkAt cs c .used + 1 ≤ x .0 → ⊥
         over q le = omega arith
+
         grown : f ≡ c → (x ≡ slot → ⊥) → SlotRight z (chunkAt cs c .used + 1) (x .0) (entryAt z es f x)
         grown p ne = record { handle = λ lt. s .handle (less lt); next = λ lt. s .next (less lt); empty = λ le. s .empty (more le) }
           where
             s : SlotRight z (chunkAt cs f .used) (x .0) (entryAt z es f x)
             s = h .lists f bf .slot x bx
+
             other : x .0 ≢ chunkAt cs c .used
             other q = ne (ap entryNo q)
+
             less : x .0 < chunkAt cs c .used + 1 → x .0 < chunkAt cs f .used
             less lt = omega (arith, other, ap (λ (f : ChunkNo). chunkAt cs f .used) p)
+
             more : chunkAt cs c .used + 1 ≤ x .0 → chunkAt cs f .used ≤ x .0
             more le = omega (arith, ap (λ (f : ChunkNo). chunkAt cs f .used) p)
 

@@ -1,1 +1,3 @@
 pub mod Facts
+pub mod Reached
+pub mod ShapeHolds

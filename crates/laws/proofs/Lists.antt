@@ -100,6 +100,7 @@ row-block c e c′ e′ size b b′ q = elim (ℕ-discrete c c′) [ yes p ↦ p
   where
     below : (a x d y : ℕ) → a < d → x < size → a * size + x ≡ d * size + y → ⊥
     below a x d y lt bx p = omega (arith, mul-le-mul-right size lt, suc-mul a size)
+
     apart : c ≢ c′ → ⊥
     apart ne = elim (decLt c c′) [ yes lt ↦ below c e c′ e′ lt b q | no ge ↦ below c′ e′ c e (omega arith) b′ (sym q) ]
 

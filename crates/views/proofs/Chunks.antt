@@ -74,6 +74,7 @@ module _ (z : Sizes) (cs : List Chunk) where
       where
         inside : chunkAt cs x .next .0 ≡ y .0 → chunkAt cs x .next .0 ≡ NONE → ⊥
         inside p q = omega (arith, h .4 .1)
+
         sum : (a b : ℕ) → a + 1 + suc b ≡ a + suc (suc b)
         sum a b = omega arith
 
@@ -121,8 +122,10 @@ module _ (z : Sizes) (cs : List Chunk) where
           where
             tail : Chain z cs (chunkAt cs w .min + 1) (chunkAt cs w .next) (u ∷ r)
             tail = rw (← e) at (h .4)
+
             later : chunkAt cs u .min ≤ chunkAt cs v .min → ⊥
             later d = omega (arith, j .from, rw (tail .0) at (i .to (rw (tail .0) (tail .1))))
+
         split : (x ≡ w) ⊎ List·Memᴰ x l → (y ≡ w) ⊎ List·Memᴰ y l → (List·Memᴰ x l → List·Memᴰ y l → x ≡ y) → x ≡ y
         split (inl a) (inl b) f = a ∙ sym b
         split (inl a) (inr b) f = absurd (past y l refl b (rw (← a) p) q)
@@ -147,7 +150,7 @@ chain-raise z cs j k c (x ∷ l) h le = (h .0, h .1, h .2, rw (h .0) at (le (rw 
 -- the chain with new chunks in the place of the old one, by the rows that change
 module _ (z : Sizes) (cs cs′ : List Chunk) (sized : z .chunks ≤ NONE) (old a : ChunkNo) (new : List ChunkNo)
     (make : (lo : ℕ) (r : List ChunkNo) → lo ≤ chunkAt cs old .min → Chain z cs (chunkAt cs old .min + 1) (chunkAt cs old .next) r →
-      Chain z cs′ (chunkAt cs old .min + 1) (chunkAt cs old .next) r → Chain z cs′ lo a (new ++ r)) where
+    Chain z cs′ (chunkAt cs old .min + 1) (chunkAt cs old .next) r → Chain z cs′ lo a (new ++ r)) where
   -- a chunk of the chain that is neither the old one nor the one before it is as it was
   abbrev Same : ChunkNo → Type 0
   Same x = (chunkAt cs′ x .status ≡ chunkAt cs x .status) × (chunkAt cs′ x .min ≡ chunkAt cs x .min) × (chunkAt cs′ x .next ≡ chunkAt cs x .next)
@@ -187,46 +190,62 @@ module _ (z : Sizes) (cs cs′ : List Chunk) (sized : z .chunks ≤ NONE) (old a
     where
       apart : Apart (λ (c : ChunkNo). c .0) (x ∷ y ∷ l)
       apart = chain-apart z cs lo c (x ∷ y ∷ l) h
+
       not-old : x ≢ old
       not-old e = apart .0 old m (ap (λ (c : ChunkNo). c .0) e)
+
       Rows : Type 0
       Rows = Every (λ y. y ≢ old → (chunkAt cs′ y .status ≡ chunkAt cs y .status) × (chunkAt cs′ y .min ≡ chunkAt cs y .min)) (x ∷ y ∷ l)
+
       Nexts : Type 0
       Nexts = Every (λ y. y ≢ old → y ≢ p → chunkAt cs′ y .next ≡ chunkAt cs y .next) (x ∷ y ∷ l)
+
       later : eqb (y .0) (old .0) ≡ false → (old ≡ y) ⊎ List·Memᴰ old l → List·Memᴰ old l
       later t (inl q) = absurd (eqb-false _ _ t (ap (λ (c : ChunkNo). c .0) (sym q)))
       later t (inr n) = n
+
       onward : p ≡ beforeFrom z cs (suc fuel) c old → eqb (y .0) (old .0) ≡ false → p ≡ beforeFrom z cs fuel y old
       onward q t = q ∙ rw (h .0, h .4 .0, t, lt-ltb (y .0) (z .chunks) (h .4 .1))
+
       tail : Chain z cs (chunkAt cs x .min + 1) y (y ∷ l)
       tail = (refl, h .4 .1, h .4 .2, h .4 .3, h .4 .4)
+
       New : Type 0
       New = Chain z cs′ lo c (x ∷ replaced old new (y ∷ l))
+
       here : p ≡ beforeFrom z cs (suc fuel) c old → Rows → Nexts → chunkAt cs′ p .next ≡ a → eqb (y .0) (old .0) ≡ true → New
       here q rows nexts at t = (h .0, h .1, same .0 ∙ h .2, rw (same .1) (h .3), rw (same .1, turned, is-old) (chain-swap-first (chunkAt cs x .min + 1) old l (rw is-old at tail) rest))
         where
           is-old : y ≡ old
           is-old = ap chunkNo (eqb-true (y .0) (old .0) t)
+
           is-x : p ≡ x
           is-x = q ∙ rw (h .0, h .4 .0, t)
+
           same : (chunkAt cs′ x .status ≡ chunkAt cs x .status) × (chunkAt cs′ x .min ≡ chunkAt cs x .min)
           same = rows x (List·Memᴰ·head refl) not-old
+
           turned : chunkAt cs′ x .next ≡ a
           turned = ap (λ (c : ChunkNo). chunkAt cs′ c .next) (sym is-x) ∙ at
+
           rest : Every Same l
           rest v n = (both .0, both .1, nexts v (List·Memᴰ·tail (List·Memᴰ·tail n)) no-old (λ e. apart .0 v (List·Memᴰ·tail n) (ap (λ (c : ChunkNo). c .0) (sym (e ∙ is-x)))))
             where
               no-old : v ≢ old
               no-old e = apart .1 .0 v n (ap (λ (c : ChunkNo). c .0) (is-old ∙ sym e))
+
               both : (chunkAt cs′ v .status ≡ chunkAt cs v .status) × (chunkAt cs′ v .min ≡ chunkAt cs v .min)
               both = rows v (List·Memᴰ·tail (List·Memᴰ·tail n)) no-old
+
       after : p ≡ beforeFrom z cs (suc fuel) c old → Rows → Nexts → eqb (y .0) (old .0) ≡ false → Chain z cs′ (chunkAt cs x .min + 1) y (replaced old new (y ∷ l)) → New
       after q rows nexts t on = (h .0, h .1, same .0 ∙ h .2, rw (same .1) (h .3), rw (same .1, kept) on)
         where
           same : (chunkAt cs′ x .status ≡ chunkAt cs x .status) × (chunkAt cs′ x .min ≡ chunkAt cs x .min)
           same = rows x (List·Memᴰ·head refl) not-old
+
           among : List·Memᴰ p (y ∷ l)
           among = Memᴰ·cast (onward q t) (before-in fuel (chunkAt cs x .min + 1) y y l (le-of-suc-le-suc b) tail (later t (List·Memᴰ·cases-cons m)))
+
           kept : chunkAt cs′ x .next ≡ y
           kept = nexts x (List·Memᴰ·head refl) not-old (λ e. apart .0 p among (ap (λ (c : ChunkNo). c .0) e)) ∙ h .4 .0
 

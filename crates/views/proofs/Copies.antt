@@ -32,6 +32,7 @@ up-from n (suc m) e h = ⊎-elim (λ p. first (ap (λ (e : EntryNo). e .0) p)) (
   where
     first : e .0 ≡ n → (n ≤ e .0) × (e .0 < n + suc m)
     first q = (omega arith, omega arith)
+
     later : (n + 1 ≤ e .0) × (e .0 < n + 1 + m) → (n ≤ e .0) × (e .0 < n + suc m)
     later q = (omega arith, omega arith)
 
@@ -70,6 +71,7 @@ module _ (z : Sizes) (c : ChunkNo) where
       where
         less : suc n ≤ e .0 → n ≤ e .0
         less p = omega arith
+
         never : suc n ≤ e .0 → e .0 ≡ n → ⊥
         never p q = omega arith
 
@@ -80,8 +82,10 @@ module _ (z : Sizes) (c : ChunkNo) where
       where
         less : e .0 ≢ n → e .0 < n
         less ne = omega arith
+
         here : e .0 ≡ n → entryAt z (set es (row z c (entryNo n)) emptyEntry) c e ≡ emptyEntry
         here q = entry-put z es c (entryNo n) emptyEntry c e (λ y. y ≡ emptyEntry) len b le (le-trans lt le) (λ _ _. refl) (λ ne. absurd (ne refl (ap entryNo q)))
+
         last : e .0 ≡ n → entryAt z (cleared z c n (set es (row z c (entryNo n)) emptyEntry)) c e ≡ emptyEntry
         last q = cleared-other n (set es (row z c (entryNo n)) emptyEntry) c e (le-trans (omega arith) le) (length-set es (row z c (entryNo n)) emptyEntry ∙ len) (le-trans lt le) (λ _. omega arith) ∙ here q
 
@@ -133,6 +137,7 @@ module _ (z : Sizes) (c : ChunkNo) where
       where
         more : e .0 ≢ n → n + 1 ≤ e .0
         more ne = omega arith
+
         number : numbers (z .entries) ((pick (eqb (length l) 0) noEntry (entryNo (n + 1))) .0) ≡ true
         number =
             picked (λ (e : EntryNo). numbers (z .entries) (e .0) ≡ true) (eqb (length l) 0) (λ _. picked (λ (b : Bool). b ≡ true) (ltb NONE (z .entries)) (λ _. refl) (λ _. refl))
@@ -140,8 +145,10 @@ module _ (z : Sizes) (c : ChunkNo) where
           where
             next : length l ≢ 0 → n + 1 < z .entries
             next ne = omega arith
+
         first : P (entryAt z (filled z c n (x ∷ l) es) c (entryNo n))
         first = rw (filled-first n x l es le len) (all x (List·Memᴰ·head refl) (pick (eqb (length l) 0) noEntry (entryNo (n + 1))) number)
+
         here : e .0 ≡ n → P (entryAt z (filled z c n (x ∷ l) es) c e)
         here q = rw (ap entryNo q) first
 

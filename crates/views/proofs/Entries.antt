@@ -168,13 +168,16 @@ module _ (z : Sizes) (es es′ : List Entry) (c : ChunkNo) (used : ℕ) (small :
     where
       New : Type 0
       New = Links z es′ c used lo (pick (ltb (entryAt z es c x .key) k) a e) (pick (ltb (entryAt z es c x .key) k) (x ∷ putIn z es c e k l) (e ∷ x ∷ l))
+
       here : k ≤ entryAt z es c x .key → New
       here t = rw (le-ltb (entryAt z es c x .key) k t) (refl, within, rw keyed lk, rw (keyed, first stop) (links-frame z es es′ c used used (k + 1) a (x ∷ l) (le-refl used) (h .0, h .1, above, h .3) (λ y m. (keys y m, nexts y m (λ p. new y m (p ∙ stop))))))
         where
           stop : before ≡ prev
           stop = q ∙ place-stop z es c used small sized (suc fuel) lo prev a x l k h t
+
           above : k + 1 ≤ entryAt z es c x .key
           above = omega (arith, other x (List·Memᴰ·head refl))
+
       after : entryAt z es c x .key < k →
           (entryAt z es c x .key + 1 ≤ k → Every (λ y. y ≢ x) l → before ≡ placeFrom z es c fuel x (entryAt z es c x .next) k → (before ≡ x → entryAt z es′ c e .next ≡ entryAt z es c x .next) →
           Links z es′ c used (entryAt z es c x .key + 1) (startOf z es c e k (entryAt z es c x .next) l) (putIn z es c e k l)) → New
@@ -183,16 +186,22 @@ module _ (z : Sizes) (es es′ : List Entry) (c : ChunkNo) (used : ℕ) (small :
         where
           same : entryAt z es′ c x .key ≡ entryAt z es c x .key
           same = keys x (List·Memᴰ·head refl)
+
           on : before ≡ placeFrom z es c fuel x (entryAt z es c x .next) k
           on = q ∙ place-on z es c used small sized fuel lo prev a x l k h t
+
           lone : Every (λ y. y ≢ x) l
           lone y m p = links-apart z es c used lo a (x ∷ l) h .0 y m (ap (λ (e : EntryNo). e .0) (sym p))
+
           first′ : before ≡ x → entryAt z es′ c e .next ≡ entryAt z es c x .next
           first′ p = at (List·Memᴰ·head p) .1 ∙ ap (λ (e : EntryNo). entryAt z es c e .next) p
+
           turned : before ≡ x → entryAt z es′ c x .next ≡ e
           turned p = ap (λ (e : EntryNo). entryAt z es′ c e .next) (sym p) ∙ at (List·Memᴰ·head p) .0
+
           past : (y : EntryNo) (r : List EntryNo) → l ≡ y ∷ r → ltb (entryAt z es c y .key) k ≡ true → List·Memᴰ before (y ∷ r)
           past y r p t′ = rw on (place-past z es c used small sized fuel (entryAt z es c x .key + 1) x (entryAt z es c x .next) y r k (rw p at (le-of-suc-le-suc b)) (rw p at (h .3)) (ltb-true (entryAt z es c y .key) k t′))
+
           follows : (r : List EntryNo) → l ≡ r → entryAt z es′ c x .next ≡ startOf z es c e k (entryAt z es c x .next) r
           follows [] p = turned (on ∙ place-none z es c used small sized fuel (entryAt z es c x .key + 1) x (entryAt z es c x .next) k (rw p at (h .3)))
           follows (y ∷ r) p =

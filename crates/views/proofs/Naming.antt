@@ -111,10 +111,13 @@ unused-from (x ∷ cs) n b = by-test (eqb (x .status) unused) here (λ t. there 
   where
     Found : ℕ → ChunkNo → Type 0
     Found k c = (i : ℕ) × (c .0 ≡ n + i) × (i < suc (length cs)) × (getD (x ∷ cs) i emptyChunk .status ≡ unused) × (k ≤ unusedCount (drop (suc i) (x ∷ cs)) + 1)
+
     here : eqb (x .status) unused ≡ true → Found (pick (eqb (x .status) unused) (unusedCount cs + 1) (unusedCount cs)) (pick (eqb (x .status) unused) (chunkNo n) (unusedFrom cs (n + 1)))
     here t = rw t (0, sym (add-zero n), omega arith, eqb-true _ _ t, le-refl _)
+
     Later : Type 0
     Later = (i : ℕ) × (unusedFrom cs (n + 1) .0 ≡ n + 1 + i) × (i < length cs) × (getD cs i emptyChunk .status ≡ unused) × (unusedCount cs ≤ unusedCount (drop (suc i) cs) + 1)
+
     there : eqb (x .status) unused ≡ false → Later → Found (pick (eqb (x .status) unused) (unusedCount cs + 1) (unusedCount cs)) (pick (eqb (x .status) unused) (chunkNo n) (unusedFrom cs (n + 1)))
     there t o = rw t (suc (o .0), omega (arith, o .1), omega (arith, o .2), o .3, o .4)
 
