@@ -19,3 +19,4 @@ pub mod Swapping
 pub mod SwapIn
 pub mod Reports
 pub mod Reaching
+pub mod Covering

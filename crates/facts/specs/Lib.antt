@@ -1,3 +1,4 @@
 pub mod Facts
 pub mod Reached
 pub mod ShapeHolds
+pub mod RangesCover
