@@ -141,3 +141,19 @@ module _ (z : Sizes) where
 
     pub task-owned : Owned z es tasks′
     task-owned = record { one-key = own .one-key; new-own = new-kept }
+
+  -- ---- the facts after a change of the entries
+  pub sourced-owned : (es es′ : List Entry) (tasks : ℕ → Task) → Sourced z es es′ → Owned z es tasks → Owned z es′ tasks
+  sourced-owned es es′ tasks from own =
+      record {
+        one-key = sourced-one-key es es′ from (own .one-key);
+        new-own = λ n b w. let o = own .new-own n b w in record { unnamed = sourced-unnamed es es′ (tasks n .new .0) b from (o .unnamed); not-old = o .not-old; not-new = o .not-new };
+      }
+
+  pub named-owned : (es : List Entry) (tasks : ℕ → Task) (c : ChunkNo) (e : EntryNo) (h : HandleNo) (len : length es ≡ z .chunks * z .entries) (at : Row z c e) →
+      Unnamed z es (h .0) → ((n : ℕ) → tasks n .swapped ≡ 0 → tasks n .new .0 ≢ h .0) → Owned z es tasks → Owned z (set es (row z c e) (withHandle (entryAt z es c e) h)) tasks
+  named-owned es tasks c e h len at un other own =
+      record {
+        one-key = name-new es c e h len at un (own .one-key);
+        new-own = λ n b w. let o = own .new-own n b w in record { unnamed = name-unnamed es c e h len at (tasks n .new .0) (other n w) (o .unnamed); not-old = o .not-old; not-new = o .not-new };
+      }
