@@ -10,7 +10,7 @@ use borrow.Author.Tests.{ltb-true, leb-true, eqb-true, eq-eqb}
 use Rattle.rules.specs.declared.Sizes.{Sizes}
 use Rattle.rules.specs.Words.{_and_, live, idle, toDrain, toCopy, toSwap, toRelease}
 use Rattle.rules.specs.Tables.{Tables, chunkAt, emptyChunk}
-use Rattle.rules.specs.Shape.{shape, each, isNone, numbers, chunkFits}
+use Rattle.rules.specs.Shape.{shape, each, isNone, chunkFits, beforeCopy, afterCopy}
 use Rattle.rules.specs.Rebalance.{unusedCount}
 use Rattle.rules.proofs.Tests.{and-left, and-right}
 use Rattle.rules.proofs.Each.{each-at}
@@ -21,14 +21,7 @@ module _ (z : Sizes) (s : Tables) (h : shape z s ≡ true) where
   long : length (s .chunks) ≡ z .chunks
   long = eqb-true _ _ (and-left _ _ (and-right (eqb (length (s .tasks)) (z .tasks)) _ (shape-parts z s h .is-sized)))
 
-  -- the parts that the shape asks before copy and after it
-  abbrev before : Bool
-  before = (isNone (s .directory .new .0) and isNone (s .directory .second .0)) and ltb (s .directory .old .0) (z .chunks) and leb 2 (unusedCount (s .chunks))
-
-  abbrev after : Bool
-  after = ltb (s .directory .old .0) (z .chunks) and ltb (s .directory .new .0) (z .chunks) and numbers (z .chunks) (s .directory .second .0) and not (eqb (s .directory .new .0) (s .directory .second .0)) and not (eqb (s .directory .old .0) (s .directory .new .0)) and not (eqb (s .directory .old .0) (s .directory .second .0))
-
-  copy-parts : s .directory .stage ≡ toCopy → (before and each (chunkFits z s (s .directory)) 0 (s .chunks)) ≡ true
+  copy-parts : s .directory .stage ≡ toCopy → (beforeCopy z s and each (chunkFits z s (s .directory)) 0 (s .chunks)) ≡ true
   copy-parts e =
       let no-idle : eqb (s .directory .stage) idle ≡ false = rw e in
       let no-drain : eqb (s .directory .stage) toDrain ≡ false = rw e in
@@ -37,9 +30,9 @@ module _ (z : Sizes) (s : Tables) (h : shape z s ≡ true) where
 
   can-copy : s .directory .stage ≡ toCopy → CanCopy z (s .directory) (s .chunks)
   can-copy e =
-      let parts : (ltb (s .directory .old .0) (z .chunks) and leb 2 (unusedCount (s .chunks))) ≡ true = and-right (isNone (s .directory .new .0) and isNone (s .directory .second .0)) _ (and-left before _ (copy-parts e)) in
+      let parts : (ltb (s .directory .old .0) (z .chunks) and leb 2 (unusedCount (s .chunks))) ≡ true = and-right (isNone (s .directory .new .0) and isNone (s .directory .second .0)) _ (and-left (beforeCopy z s) _ (copy-parts e)) in
       let old : s .directory .old .0 < z .chunks = ltb-true _ _ (and-left (ltb (s .directory .old .0) (z .chunks)) _ parts) in
-      let fits : chunkFits z s (s .directory) (s .directory .old .0) (chunkAt (s .chunks) (s .directory .old)) ≡ true = rw zero-add at (each-at (chunkFits z s (s .directory)) 0 (s .chunks) (s .directory .old .0) emptyChunk (and-right before _ (copy-parts e)) (rw long old)) in
+      let fits : chunkFits z s (s .directory) (s .directory .old .0) (chunkAt (s .chunks) (s .directory .old)) ≡ true = rw zero-add at (each-at (chunkFits z s (s .directory)) 0 (s .chunks) (s .directory .old .0) emptyChunk (and-right (beforeCopy z s) _ (copy-parts e)) (rw long old)) in
       let is-old : eqb (s .directory .old .0) (s .directory .old .0) ≡ true = eq-eqb (s .directory .old .0) (s .directory .old .0) refl in
       let no-release : eqb (s .directory .stage) toRelease ≡ false = rw e in
       let status : chunkAt (s .chunks) (s .directory .old) .status ≡ live = eqb-true _ _ (and-right (eqb (chunkAt (s .chunks) (s .directory .old) .frozen) 1) _ (rw (is-old, no-release) at fits)) in
@@ -52,7 +45,7 @@ module _ (z : Sizes) (s : Tables) (h : shape z s ≡ true) where
       let no-copy : eqb (s .directory .stage) toCopy ≡ false = rw e in
       let no-swap : eqb (s .directory .stage) toSwap ≡ false = rw e in
       let is-release : eqb (s .directory .stage) toRelease ≡ true = rw e in
-      ltb-true _ _ (and-left (ltb (s .directory .old .0) (z .chunks)) _ (and-left after _ (rw (no-idle, no-drain, no-copy, no-swap, is-release) at (shape-parts z s h .rebalance))))
+      ltb-true _ _ (and-left (ltb (s .directory .old .0) (z .chunks)) _ (and-left (afterCopy z s) _ (rw (no-idle, no-drain, no-copy, no-swap, is-release) at (shape-parts z s h .rebalance))))
 
   pub shape-ready : Ready z (s .directory) (s .chunks)
   shape-ready = record { copy = can-copy; release = can-release }

@@ -178,17 +178,27 @@ module _ (z : Sizes) (s : Tables) where
       (pick isNew (eqb (x .status) (pick (eqb (d .stage) toRelease) live new))
       (eqb (x .status) unused or eqb (x .status) live))
 
-  -- two unused chunks before copy; after it one or two new ones, no chunk twice
+  -- no new chunks yet, and two unused ones for them
+  abbrev pub beforeCopy : Bool
+  beforeCopy = (isNone (s .directory .new .0) and isNone (s .directory .second .0)) and ltb (s .directory .old .0) (z .chunks) and leb 2 (unusedCount (s .chunks))
+
+  -- one new chunk or two, and no chunk twice
+  abbrev pub afterCopy : Bool
+  afterCopy =
+      ltb (s .directory .old .0) (z .chunks)
+      and ltb (s .directory .new .0) (z .chunks)
+      and numbers (z .chunks) (s .directory .second .0)
+      and not (eqb (s .directory .new .0) (s .directory .second .0))
+      and not (eqb (s .directory .old .0) (s .directory .new .0))
+      and not (eqb (s .directory .old .0) (s .directory .second .0))
+
   abbrev pub rebalanceFits : Bool
   rebalanceFits =
       let d = s .directory in
-      let none = isNone (d .new .0) and isNone (d .second .0) in
-      let before = none and ltb (d .old .0) (z .chunks) and leb 2 (unusedCount (s .chunks)) in
-      let after = ltb (d .old .0) (z .chunks) and ltb (d .new .0) (z .chunks) and numbers (z .chunks) (d .second .0) and not (eqb (d .new .0) (d .second .0)) and not (eqb (d .old .0) (d .new .0)) and not (eqb (d .old .0) (d .second .0)) in
       let stages =
-      pick (eqb (d .stage) idle) (isNone (d .old .0) and none)
-      (pick (eqb (d .stage) toDrain or eqb (d .stage) toCopy) before
-      (pick (eqb (d .stage) toSwap or eqb (d .stage) toRelease) after false)) in
+      pick (eqb (d .stage) idle) (isNone (d .old .0) and isNone (d .new .0) and isNone (d .second .0))
+      (pick (eqb (d .stage) toDrain or eqb (d .stage) toCopy) beforeCopy
+      (pick (eqb (d .stage) toSwap or eqb (d .stage) toRelease) afterCopy false)) in
       stages and each (chunkFits d) 0 (s .chunks)
 
   -- ---- all of it

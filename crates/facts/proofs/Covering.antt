@@ -1,0 +1,55 @@
+-- Live chunks cover all keys, by the facts.
+use Prim.Native.Nat.{ℕ, _+_, _≤_, _<_}
+use mathlib.Core.Path.{_≡_, refl, sym}
+use mathlib.Core.List.{List, [], _∷_, map, List·Memᴰ}
+use native.Mathlib.Omega.{arith}
+use lib.ListN.{length}
+use Rattle.rules.specs.declared.Sizes.{Sizes}
+use Rattle.rules.specs.declared.Entry.{Entry}
+use Rattle.rules.specs.declared.ChunkNo.{ChunkNo}
+use Rattle.rules.specs.declared.EntryNo.{EntryNo}
+use Rattle.rules.specs.Words.{live}
+use Rattle.rules.specs.Tables.{Tables, chunk, entryAt}
+use Rattle.rules.specs.Walks.{locate, linked}
+use Rattle.views.specs.Views.{Links, Chain, InRange, chain}
+use Rattle.views.proofs.Chunks.{chain-view, chain-live, chain-one}
+use Rattle.facts.specs.Facts.{Limited, Chained, Tabled, Kept}
+use Rattle.facts.specs.Reached.{Reached}
+use Rattle.facts.specs.RangesCover.{Live, Ascending, RangesCover}
+use Rattle.facts.proofs.Shapes.{chain-short}
+use Rattle.facts.proofs.Going.{located}
+use Rattle.facts.proofs.Reaching.{reached-kept}
+
+links-ascending : (z : Sizes) (es : List Entry) (c : ChunkNo) (used k : ℕ) (e : EntryNo) (l : List EntryNo) → Links z es c used k e l → Ascending k (map (λ e. entryAt z es c e .key) l)
+unfolding Links Ascending
+links-ascending z es c used k e [] h = tt
+links-ascending z es c used k e (x ∷ l) h = (h .2, links-ascending z es c used _ _ l (h .3))
+
+module _ (z : Sizes) (lim : Limited z) (s : Tables) (kept : Kept z s) where
+  c : Chained z (s .directory .first) (s .chunks)
+  c = kept .tables .chained
+
+  chain-is : chain z s ≡ s .directory .first ∷ c .rest
+  chain-is = chain-view z (s .chunks) (lim .chunks) (z .chunks) 0 (s .directory .first) (s .directory .first ∷ c .rest) (chain-short z (s .chunks) (s .directory .first) (kept .tables .chunks-sized) c) (c .chain)
+
+  in-chain : (f : ChunkNo) → Live z s f → List·Memᴰ f (s .directory .first ∷ c .rest)
+  in-chain f l = c .every f (l .numbered) (l .isLive)
+
+  covers : (k : ℕ) → Live z s (locate z s k) × InRange z (s .chunks) (locate z s k) k
+  covers k = let at = located z lim s (kept .tables) k in (record { numbered = at .0; isLive = at .1 .0 }, at .1 .1)
+
+  only : (k : ℕ) (f : ChunkNo) → Live z s f → InRange z (s .chunks) f k → f ≡ locate z s k
+  only k f l r = chain-one z (s .chunks) (lim .chunks) 0 k (s .directory .first) f (locate z s k) (s .directory .first ∷ c .rest) (c .chain) (in-chain f l) (in-chain (locate z s k) (covers k .0)) r (covers k .1)
+
+  of-chain : (f : ChunkNo) → List·Memᴰ f (s .directory .first ∷ c .rest) → Live z s f
+  of-chain f m = let at = chain-live z (s .chunks) 0 (s .directory .first) (s .directory .first ∷ c .rest) (c .chain) f m in record { numbered = at .0; isLive = at .1 }
+
+pub ranges-cover : (z : Sizes) → Limited z → RangesCover z
+ranges-cover z lim =
+    record {
+      covered = λ s r. covers z lim s (reached-kept z lim r);
+      alone = λ s r. only z lim s (reached-kept z lim r);
+      ascending = λ s r f b. links-ascending z (s .entries) f (chunk s f .used) 0 (chunk s f .head) (linked z s f) (reached-kept z lim r .tables .lists f b .links);
+      within = λ s r f l. reached-kept z lim r .tables .key-in-range f (l .numbered) (l .isLive);
+      chained = λ s r f. (λ l. rw (chain-is z lim s (reached-kept z lim r)) (in-chain z lim s (reached-kept z lim r) f l), λ m. of-chain z lim s (reached-kept z lim r) f (rw (chain-is z lim s (reached-kept z lim r)) at m));
+    }

@@ -1,0 +1,137 @@
+-- What every stage's proof cites: what it is that a stage keeps the facts, and how a task's row goes on.
+use Prim.Native.Nat.{ℕ, zero, suc, _+_, _≤_, _<_}
+use mathlib.Core.Path.{_≡_, refl, sym, ap, _∙_, subst}
+use mathlib.Core.Logic.{_⊎_, inl, inr, ⊎-elim, ⊎-map, _≢_}
+use mathlib.Core.Bool.{Bool, true, false, not, false≢true}
+use mathlib.Core.List.{List, [], _∷_, List·Memᴰ, List·Memᴰ·head}
+use native.Mathlib.Nat.{le-trans, le-refl}
+use native.Mathlib.Omega.{arith}
+use lib.Dec.{eqb, ltb, leb}
+use lib.ListN.{length, getD}
+use borrow.Author.Tests.{lt-ltb, le-ltb, le-leb, eq-eqb, ne-eqb, ltb-true, ltb-false, leb-true, eqb-true, eqb-false}
+use Rattle.rules.specs.declared.Sizes.{Sizes}
+use Rattle.rules.specs.declared.Task.{Task}
+use Rattle.rules.specs.declared.Chunk.{Chunk}
+use Rattle.rules.specs.declared.Entry.{Entry}
+use Rattle.rules.specs.declared.ChunkNo.{ChunkNo}
+use Rattle.rules.specs.declared.EntryNo.{EntryNo}
+use Rattle.rules.specs.declared.HandleNo.{HandleNo}
+use Rattle.rules.specs.declared.Decision.{Decision}
+use Rattle.rules.specs.declared.Report.{Report}
+use Rattle.rules.specs.declared.Write.{Write}
+use Rattle.rules.specs.declared.Write.the-variants as write
+use Rattle.rules.specs.Words.{pick, _and_, _or_, NONE, noChunk, noEntry, noHandle, entryNo, unused, live, new, retired, usesFunction, inserts, get, put, putIfAbsent, compute, remove}
+use Rattle.rules.specs.Tables.{Tables, idleTask, withTasks, chunkAt, entryAt, chunk, entry, mark}
+use Rattle.rules.specs.Walks.{locate, find, place, lowestFree, firstPresent}
+use Rattle.rules.specs.Stages
+use Rattle.rules.specs.Shape.{numbers, heldAs, flagAs, fitsOperation}
+use Rattle.laws.specs.Counts.{Every}
+use Rattle.laws.proofs.Tests.{picked, by-test, both, or-cases}
+use Rattle.views.specs.Views.{Links, InRange}
+use Rattle.views.proofs.Entries.{links-length, find-hit, find-miss, links-below}
+use Rattle.views.proofs.Chunks.{chain-locate, chain-live}
+use Rattle.facts.specs.Facts.{Limited, ListRight, listed, Chained, Tabled, Holds, holdAt, ChunkOfKey, EntryHeld, Tasked, Waits, Allowed}
+use Rattle.facts.proofs.Numbers.{number-in, number-none, number-cases}
+use Rattle.facts.proofs.Operations.{throughout, implies, fits-move}
+use Rattle.facts.proofs.Shapes.{chain-short}
+use Rattle.facts.proofs.Writes.{slot-held, slot-written}
+use Rattle.facts.proofs.Applying.{link-applied-linked, applied-by}
+
+-- a stage's outcome: its write is allowed, and after it the task's row has the facts
+pub record Fine (z : Sizes) (s : Tables) (x : Decision) : Type 0 where
+  pub allowed : Allowed z (s .chunks) (s .entries) (x .write)
+  pub task : (ts : List Task) → Tasked z (Stages.apply z (withTasks s ts) (x .write) .chunks) (Stages.apply z (withTasks s ts) (x .write) .entries) (x .task)
+
+module _ (z : Sizes) (lim : Limited z) (s : Tables) (h : Tabled z (s .directory) (s .chunks) (s .entries)) where
+  pub no-chunk : (P : Type 0) → NONE < z .chunks → P
+  no-chunk P b = absurd (never b)
+    where
+      never : NONE < z .chunks → ⊥
+      never b = omega (arith, lim .chunks)
+
+  pub no-entry : (P : Type 0) → NONE < z .entries → P
+  no-entry P b = absurd (never b)
+    where
+      never : NONE < z .entries → ⊥
+      never b = omega (arith, lim .entries)
+
+  pub idle-right : (cs : List Chunk) (es : List Entry) → Tasked z cs es idleTask
+  idle-right cs es = record { idle = λ _. refl; holds = λ ne. absurd (ne refl); chunk-of-key = no-chunk _; entry = no-entry _ }
+
+  -- locate gives a live chunk whose range has the key
+  pub located : (k : ℕ) → (locate z s k .0 < z .chunks) × ((chunk s (locate z s k) .status ≡ live) × InRange z (s .chunks) (locate z s k) k)
+  located k = (at .0, (at .1, found .1))
+    where
+      c : Chained z (s .directory .first) (s .chunks)
+      c = h .chained
+
+      short : length (s .directory .first ∷ c .rest) ≤ z .chunks
+      short = chain-short z (s .chunks) (s .directory .first) (h .chunks-sized) c
+
+      found : List·Memᴰ (locate z s k) (s .directory .first ∷ c .rest) × InRange z (s .chunks) (locate z s k) k
+      found = chain-locate z (s .chunks) (lim .chunks) (z .chunks) 0 k (s .directory .first) (s .directory .first) (c .rest) short (c .chain) (rw (c .from) (omega arith))
+
+      at : (locate z s k .0 < z .chunks) × (chunk s (locate z s k) .status ≡ live)
+      at = chain-live z (s .chunks) 0 (s .directory .first) (s .directory .first ∷ c .rest) (c .chain) (locate z s k) (found .0)
+
+  module _ (t : Task) (r : Tasked z (s .chunks) (s .entries) t) where
+    -- a task that has finished, or starts again
+    pub finished : (w : Write) (a : Report) → Allowed z (s .chunks) (s .entries) w → Fine z s (Stages.finishes w a)
+    finished w a ok = record { allowed = ok; task = λ ts. idle-right _ _ }
+
+    pub restarted : (why : Report) → t .stage ≢ 0 → fitsOperation (t .operation) 1 ≡ true → Fine z s (Stages.restarts t why)
+    restarted why ne f =
+        record {
+          allowed = tt;
+          task = λ ts.
+              record {
+                idle = λ e. absurd (one e);
+                holds = λ _. record { fits = f; function = r .holds ne .function; chunk = refl; entry = refl; old = refl; new = refl; published = refl; swapped = refl };
+                chunk-of-key = no-chunk _;
+                entry = no-entry _;
+              };
+        }
+      where
+        one : _≡_ {A = ℕ} 1 0 → ⊥
+        one e = omega arith
+
+    pub holds-at : (n : ℕ) → t .stage ≡ n → n ≢ 0 → Holds z t (holdAt n)
+    holds-at n e ne = rw (← e) (r .holds (λ q. ne (sym e ∙ q)))
+
+    -- a row that goes on, by what its stage must hold
+    pub row-right : (n : ℕ) (c : ChunkNo) (e : EntryNo) (o m : HandleNo) (p w : ℕ) → n ≢ 0 → Holds z (Stages.goesTo t n c e o m p w) (holdAt n) →
+        (c .0 < z .chunks → ChunkOfKey z (s .chunks) c (t .key)) → (e .0 < z .entries → EntryHeld z (s .chunks) (s .entries) c e (t .key) n) → Tasked z (s .chunks) (s .entries) (Stages.goesTo t n c e o m p w)
+    row-right n c e o m p w ne holds ck en = record { idle = λ q. absurd (ne q); holds = λ _. holds; chunk-of-key = ck; entry = en }
+
+    pub going : (n : ℕ) (c : ChunkNo) (e : EntryNo) (o m : HandleNo) (p w : ℕ) → n ≢ 0 → Holds z (Stages.goesTo t n c e o m p w) (holdAt n) →
+        (c .0 < z .chunks → ChunkOfKey z (s .chunks) c (t .key)) → (e .0 < z .entries → EntryHeld z (s .chunks) (s .entries) c e (t .key) n) →
+        Fine z s (Stages.moves (Stages.goesTo t n c e o m p w) write.Nothing)
+    going n c e o m p w ne holds ck en = record { allowed = tt; task = λ ts. row-right n c e o m p w ne holds ck en }
+
+    pub fit : (n m : ℕ) (when : ℕ → Bool) → throughout 8 (λ op. implies (fitsOperation op n and when op) (fitsOperation op m)) ≡ true → t .stage ≡ n → n ≢ 0 → when (t .operation) ≡ true → fitsOperation (t .operation) m ≡ true
+    fit n m when all e ne w = fits-move n m when all (t .operation) (rw e at (holds-at n e ne .fits)) w
+
+    -- a held entry that is linked stays so at any stage
+    pub entry-at : (n : ℕ) → t .stage ≡ n → n ≢ 7 → (m : ℕ) → t .entry .0 < z .entries → EntryHeld z (s .chunks) (s .entries) (t .chunk) (t .entry) (t .key) m
+    entry-at n e ne m b = record { inside = x .inside; used = x .used; keyed = x .keyed; linked = λ _. x .linked (λ q. ne (sym e ∙ q)) }
+      where
+        x : EntryHeld z (s .chunks) (s .entries) (t .chunk) (t .entry) (t .key) (t .stage)
+        x = r .entry b
+
+    module _ (c : ChunkNo) (b : c .0 < z .chunks) where
+      links : Links z (s .entries) c (chunk s c .used) 0 (chunk s c .head) (listed z (s .chunks) (s .entries) c)
+      links = h .lists c b .links
+
+      small : chunk s c .used ≤ z .entries
+      small = h .lists c b .row .used
+
+      pub found-held : (k n : ℕ) → find z s c k .0 < z .entries → EntryHeld z (s .chunks) (s .entries) c (find z s c k) k n
+      found-held k n i = record { inside = b; used = links-below z (s .entries) c (chunk s c .used) 0 (chunk s c .head) (listed z (s .chunks) (s .entries) c) links (find z s c k) (hit .0); keyed = hit .1; linked = λ _. hit .0 }
+        where
+          hit : List·Memᴰ (find z s c k) (listed z (s .chunks) (s .entries) c) × (entry z s c (find z s c k) .key ≡ k)
+          hit = find-hit z (s .entries) c (chunk s c .used) small (lim .entries) (z .entries) 0 (chunk s c .head) (listed z (s .chunks) (s .entries) c) k links i
+
+      pub lacks-key : (k : ℕ) → z .entries ≤ find z s c k .0 → Every (λ x. entry z s c x .key ≢ k) (listed z (s .chunks) (s .entries) c)
+      lacks-key k o =
+          find-miss z (s .entries) c (chunk s c .used) small (lim .entries) (z .entries) 0 (chunk s c .head) (listed z (s .chunks) (s .entries) c) k
+          (le-trans (links-length z (s .entries) c (chunk s c .used) 0 (chunk s c .head) (listed z (s .chunks) (s .entries) c) links) small) links o

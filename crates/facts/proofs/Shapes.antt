@@ -1,0 +1,225 @@
+-- Tables of which the facts hold have document 01's shape.
+use Prim.Native.Nat.{ℕ, zero, suc, _+_, _*_, _≤_, _<_}
+use mathlib.Core.Path.{_≡_, refl, sym, ap, _∙_, subst}
+use mathlib.Core.Logic.{_⊎_, inl, inr, ⊎-elim, ⊎-map, _≢_}
+use mathlib.Core.Bool.{Bool, true, false, not, false≢true}
+use mathlib.Core.List.{List, [], _∷_, List·Memᴰ, List·Memᴰ·head}
+use native.Mathlib.Nat.{zero-add, le-trans, mul-le-mul-right, suc-mul}
+use native.Mathlib.Omega.{arith}
+use lib.Dec.{eqb, ltb, leb}
+use lib.ListN.{length, getD, take, drop, length-take, length-drop}
+use lib.Seq.{getD-take, getD-drop}
+use borrow.Author.Tests.{lt-ltb, le-ltb, le-leb, lt-leb, eq-eqb, ne-eqb, ltb-true, ltb-false, leb-true, leb-false, eqb-true, eqb-false}
+use Rattle.rules.specs.declared.Sizes.{Sizes}
+use Rattle.rules.specs.declared.Directory.{Directory}
+use Rattle.rules.specs.declared.Task.{Task}
+use Rattle.rules.specs.declared.Chunk.{Chunk}
+use Rattle.rules.specs.declared.Entry.{Entry}
+use Rattle.rules.specs.declared.ChunkNo.{ChunkNo}
+use Rattle.rules.specs.declared.EntryNo.{EntryNo}
+use Rattle.rules.specs.Words.{pick, _and_, _or_, NONE, chunkNo, entryNo, unused, live, new, retired, usesFunction, idle, toDrain, toCopy, toSwap, toRelease}
+use Rattle.rules.specs.Tables.{Tables, idleTask, emptyChunk, emptyEntry, chunkAt, entryAt, chunk, entry, task}
+use Rattle.rules.specs.Rebalance.{unusedCount}
+use Rattle.rules.specs.Shape.{each, slotsOf, isNone, numbers, isEmptyEntry, isEmptyChunk, heldAs, flagAs, fitsOperation, Hold, hold, stageList, liveCount, chainCount, shape, sized, chunkRight, slotRight, chunkNumbers, chained, taskRight, holdsRight, holdsEntry, chunkFits, rebalanceFits, linkedFrom, ascendsFrom, beforeCopy, afterCopy}
+use Rattle.laws.specs.Counts.{Every, all}
+use Rattle.laws.proofs.Tests.{picked, by-test, both, and-left, and-right, or-cases, or-left, or-right}
+use Rattle.laws.proofs.Lists.{each-by, all-at, row-within}
+use Rattle.views.specs.Views.{Links, Chain, InRange}
+use Rattle.views.proofs.Entries.{links-length, links-ascends, links-linked}
+use Rattle.views.proofs.Chunks.{chain-count, chain-live}
+use Rattle.facts.proofs.Numbers.{held-one, head-right}
+use Rattle.facts.specs.Facts.{Limited, RowRight, SlotRight, ListRight, listed, Chained, Roles, Rebalancing, Tabled, Holds, holdAt, EntryHeld, Tasked, Kept}
+
+live-count-le : (cs : List Chunk) → liveCount cs ≤ length cs
+unfolding liveCount
+live-count-le [] = omega arith
+live-count-le (x ∷ cs) = picked (λ (n : ℕ). n ≤ suc (length cs)) (eqb (x .status) live) (λ _. omega (arith, live-count-le cs)) (λ _. omega (arith, live-count-le cs))
+
+-- the chain has at most as many chunks as there are
+pub chain-short : (z : Sizes) (cs : List Chunk) (first : ChunkNo) → length cs ≡ z .chunks → (c : Chained z first cs) → length (first ∷ c .rest) ≤ z .chunks
+chain-short z cs first len c = rw (c .counted, ← len) (live-count-le cs)
+
+-- a stage that holds an entry holds a chunk
+rows-right : all (λ h. leb (h .chunk) 1 and leb (h .entry) (h .chunk)) stageList ≡ true
+unfolding all
+rows-right = refl
+
+module _ (z : Sizes) (lim : Limited z) (s : Tables) (kept : Kept z s) where
+  tables : Tabled z (s .directory) (s .chunks) (s .entries)
+  tables = kept .tables
+
+  sized-right : sized z s ≡ true
+  sized-right = rw (kept .tasks-sized, tables .chunks-sized, tables .entries-sized, kept .values-sized, kept .marks-sized, eq-eqb (z .tasks) (z .tasks) refl, eq-eqb (z .chunks) (z .chunks) refl, eq-eqb (z .chunks * z .entries) (z .chunks * z .entries) refl, eq-eqb (z .handles) (z .handles) refl)
+
+  marks-right : each (λ n m. leb m 1) 0 (s .marks) ≡ true
+  marks-right = each-by (λ n m. leb m 1) 0 (s .marks) 0 (λ i b. le-leb _ _ (kept .marks i))
+
+  slot-right : (c : ChunkNo) → c .0 < z .chunks → (e : ℕ) → e < z .entries → slotRight z s (chunk s c .used) e (entry z s c (entryNo e)) ≡ true
+  slot-right c b e d =
+      picked (λ (r : Bool). r ≡ true) (ltb e (chunk s c .used))
+      (λ t. both _ _ (slot .handle (ltb-true _ _ t)) (slot .next (ltb-true _ _ t)))
+      (λ t. rw (slot .empty (ltb-false _ _ t)))
+    where
+      slot : SlotRight z (chunk s c .used) e (entry z s c (entryNo e))
+      slot = tables .lists c b .slot (entryNo e) d
+
+  slots-right : (c : ChunkNo) → c .0 < z .chunks → each (slotRight z s (chunk s c .used)) 0 (slotsOf z (s .entries) c) ≡ true
+  slots-right c b = each-by (slotRight z s (chunk s c .used)) 0 (slotsOf z (s .entries) c) emptyEntry at
+    where
+      many : length (slotsOf z (s .entries) c) ≤ z .entries
+      many = rw length-take (omega arith)
+
+      at : (i : ℕ) → i < length (slotsOf z (s .entries) c) → slotRight z s (chunk s c .used) (0 + i) (getD (slotsOf z (s .entries) c) i emptyEntry) ≡ true
+      at i d = rw (zero-add i, getD-take (z .entries) (drop (c .0 * z .entries) (s .entries)) i emptyEntry (le-trans d many), getD-drop (c .0 * z .entries) (s .entries) i emptyEntry) (slot-right c b i (le-trans d many))
+
+  list-right : (c : ChunkNo) → c .0 < z .chunks → ascendsFrom z (s .entries) c (chunk s c .used) (z .entries) (chunk s c .head) 0 ≡ true
+  list-right c b = links-ascends z (s .entries) c (chunk s c .used) small (lim .entries) (z .entries) 0 (chunk s c .head) (listed z (s .chunks) (s .entries) c) (le-trans (links-length z (s .entries) c (chunk s c .used) 0 _ _ links) small) links
+    where
+      links : Links z (s .entries) c (chunk s c .used) 0 (chunk s c .head) (listed z (s .chunks) (s .entries) c)
+      links = tables .lists c b .links
+
+      small : chunk s c .used ≤ z .entries
+      small = tables .lists c b .row .used
+
+  row-right : (c : ChunkNo) → c .0 < z .chunks → pick (eqb (chunk s c .status) unused) (isEmptyChunk (chunk s c)) (chunkNumbers z s (chunk s c)) ≡ true
+  row-right c b =
+      picked (λ (r : Bool). r ≡ true) (eqb (chunk s c .status) unused)
+      (λ t. rw (row .empty (eqb-true _ _ t)))
+      (λ t. rw (le-leb (chunk s c .status) retired (row .status), le-leb (chunk s c .frozen) 1 (row .frozen), row .next, head-right z (s .entries) c (chunk s c .used) (row .used) 0 (chunk s c .head) (listed z (s .chunks) (s .entries) c) (tables .lists c b .links), le-leb (chunk s c .used) (z .entries) (row .used)))
+    where
+      row : RowRight z (chunk s c)
+      row = tables .lists c b .row
+
+  chunks-right : each (chunkRight z s) 0 (s .chunks) ≡ true
+  chunks-right = each-by (chunkRight z s) 0 (s .chunks) emptyChunk at
+    where
+      at : (i : ℕ) → i < length (s .chunks) → chunkRight z s (0 + i) (getD (s .chunks) i emptyChunk) ≡ true
+      at i b = rw zero-add (both _ _ (row-right (chunkNo i) inside) (both _ _ (slots-right (chunkNo i) inside) (list-right (chunkNo i) inside)))
+        where
+          inside : i < z .chunks
+          inside = rw (tables .chunks-sized) at b
+
+  chain-right : chained z s ≡ true
+  chain-right = rw (c .from, chain-count z (s .chunks) (lim .chunks) (z .chunks) 0 0 (s .directory .first) (s .directory .first) (c .rest) short (c .chain), zero-add, c .counted, eq-eqb (liveCount (s .chunks)) (liveCount (s .chunks)) refl)
+    where
+      c : Chained z (s .directory .first) (s .chunks)
+      c = tables .chained
+
+      short : length (s .directory .first ∷ c .rest) ≤ z .chunks
+      short = chain-short z (s .chunks) (s .directory .first) (tables .chunks-sized) c
+
+  roles-right : (i : ℕ) → i < z .chunks → chunkFits z s (s .directory) i (chunk s (chunkNo i)) ≡ true
+  roles-right i b =
+      by-test (eqb (s .directory .old .0) i)
+      (λ t. rw (t, roles .old (eqb-true _ _ t) .0, roles .old (eqb-true _ _ t) .1) (eq-eqb (pick (eqb (s .directory .stage) toRelease) retired live) (pick (eqb (s .directory .stage) toRelease) retired live) refl))
+      (λ t. rw t (by-test (eqb (s .directory .new .0) i or eqb (s .directory .second .0) i) (is-new (eqb-false _ _ t)) (is-other (eqb-false _ _ t))))
+    where
+      roles : Roles (s .directory) i (chunk s (chunkNo i))
+      roles = tables .rebalancing .roles (chunkNo i) b
+
+      Fits : Type 0
+      Fits = (eqb (chunk s (chunkNo i) .frozen) 0 and pick (eqb (s .directory .new .0) i or eqb (s .directory .second .0) i) (eqb (chunk s (chunkNo i) .status) (pick (eqb (s .directory .stage) toRelease) live new)) (eqb (chunk s (chunkNo i) .status) unused or eqb (chunk s (chunkNo i) .status) live)) ≡ true
+
+      is-new : s .directory .old .0 ≢ i → (eqb (s .directory .new .0) i or eqb (s .directory .second .0) i) ≡ true → Fits
+      is-new ne t = rw (t, role .0, role .1) (eq-eqb (pick (eqb (s .directory .stage) toRelease) live new) (pick (eqb (s .directory .stage) toRelease) live new) refl)
+        where
+          role : (chunk s (chunkNo i) .frozen ≡ 0) × (chunk s (chunkNo i) .status ≡ pick (eqb (s .directory .stage) toRelease) live new)
+          role = roles .new ne (⊎-map (eqb-true (s .directory .new .0) i) (eqb-true (s .directory .second .0) i) (or-cases (eqb (s .directory .new .0) i) (eqb (s .directory .second .0) i) t))
+
+      is-other : s .directory .old .0 ≢ i → (eqb (s .directory .new .0) i or eqb (s .directory .second .0) i) ≡ false → Fits
+      is-other ne t = rw (t, role .0) (⊎-elim (λ q. rw q) (λ q. rw q) (role .1))
+        where
+          role : (chunk s (chunkNo i) .frozen ≡ 0) × ((chunk s (chunkNo i) .status ≡ unused) ⊎ (chunk s (chunkNo i) .status ≡ live))
+          role = roles .other ne (eqb-false (s .directory .new .0) i (or-left (eqb (s .directory .new .0) i) (eqb (s .directory .second .0) i) t)) (eqb-false (s .directory .second .0) i (or-right (eqb (s .directory .new .0) i) (eqb (s .directory .second .0) i) t))
+
+  rebalance-right : rebalanceFits z s ≡ true
+  rebalance-right = both _ _ stages (each-by (chunkFits z s (s .directory)) 0 (s .chunks) emptyChunk (λ i b. rw zero-add (roles-right i (rw (tables .chunks-sized) at b))))
+    where
+      d : Directory
+      d = s .directory
+
+      r : Rebalancing z d (s .chunks)
+      r = tables .rebalancing
+
+      Stages : ℕ → Type 0
+      Stages n = pick (eqb n idle) (isNone (d .old .0) and isNone (d .new .0) and isNone (d .second .0))
+          (pick (eqb n toDrain or eqb n toCopy) (beforeCopy z s)
+          (pick (eqb n toSwap or eqb n toRelease) (afterCopy z s) false)) ≡ true
+
+      before : 1 ≤ d .stage → d .stage ≤ 2 → beforeCopy z s ≡ true
+      before a b = rw (r .unmade b .0, r .unmade b .1, lt-ltb (d .old .0) (z .chunks) (r .old a), le-leb 2 (unusedCount (s .chunks)) (r .room a b))
+
+      after : 3 ≤ d .stage → afterCopy z s ≡ true
+      after a = rw (lt-ltb (d .old .0) (z .chunks) (r .old (omega arith)), lt-ltb (d .new .0) (z .chunks) (r .new a), r .second a, ne-eqb (d .new .0) (d .second .0) (r .apart a), ne-eqb (d .old .0) (d .new .0) (r .old-new a), ne-eqb (d .old .0) (d .second .0) (r .old-second a))
+
+      at : (n : ℕ) → d .stage ≡ n → n ≤ 4 → Stages n
+      at zero e b = rw (r .none e, r .unmade (omega arith) .0, r .unmade (omega arith) .1)
+      at (suc zero) e b = before (omega arith) (omega arith)
+      at (suc (suc zero)) e b = before (omega arith) (omega arith)
+      at (suc (suc (suc zero))) e b = after (omega arith)
+      at (suc (suc (suc (suc zero)))) e b = after (omega arith)
+      at (suc (suc (suc (suc (suc n))))) e b = absurd (over n b)
+        where
+          over : (n : ℕ) → suc (suc (suc (suc (suc n)))) ≤ 4 → ⊥
+          over n b = omega arith
+
+      stages : Stages (d .stage)
+      stages = at (d .stage) refl (r .known)
+
+  holds-entry : (n : ℕ) → EntryHeld z (s .chunks) (s .entries) (task s n .chunk) (task s n .entry) (task s n .key) (task s n .stage) → holdsEntry z s (task s n) ≡ true
+  holds-entry n held = both _ _ (lt-ltb _ _ (held .used)) (both _ _ (eq-eqb _ _ (held .keyed)) (picked (λ (b : Bool). b ≡ true) (eqb (t .stage) 7) (λ _. refl) (λ ne. links-linked z (s .entries) (t .chunk) (chunk s (t .chunk) .used) small (lim .entries) (z .entries) 0 (chunk s (t .chunk) .head) (t .entry) (listed z (s .chunks) (s .entries) (t .chunk)) (le-trans (links-length z (s .entries) (t .chunk) (chunk s (t .chunk) .used) 0 _ _ links) small) links (held .linked (eqb-false _ _ ne)))))
+    where
+      t : Task
+      t = task s n
+
+      links : Links z (s .entries) (t .chunk) (chunk s (t .chunk) .used) 0 (chunk s (t .chunk) .head) (listed z (s .chunks) (s .entries) (t .chunk))
+      links = tables .lists (t .chunk) (held .inside) .links
+
+      small : chunk s (t .chunk) .used ≤ z .entries
+      small = tables .lists (t .chunk) (held .inside) .row .used
+
+  task-right : (n : ℕ) → taskRight z s n (task s n) ≡ true
+  task-right n =
+      picked (λ (b : Bool). b ≡ true) (eqb (t .stage) 0)
+      (λ e. rw (kept .tasks n .idle (eqb-true _ _ e)))
+      (λ e. busy (kept .tasks n .holds (eqb-false _ _ e)))
+    where
+      t : Task
+      t = task s n
+
+      h : Hold
+      h = holdAt (t .stage)
+
+      row : (leb (h .chunk) 1 and leb (h .entry) (h .chunk)) ≡ true
+      row = all-at (λ h. leb (h .chunk) 1 and leb (h .entry) (h .chunk)) stageList (t .stage) (hold 0 0 0 0 0 0) rows-right refl
+
+      chunk-row : h .chunk ≤ 1
+      chunk-row = leb-true (h .chunk) 1 (and-left (leb (h .chunk) 1) (leb (h .entry) (h .chunk)) row)
+
+      entry-row : h .entry ≤ h .chunk
+      entry-row = leb-true (h .entry) (h .chunk) (and-right (leb (h .chunk) 1) (leb (h .entry) (h .chunk)) row)
+
+      at-chunk : eqb (h .chunk) 0 ≡ false → Holds z t h → t .chunk .0 < z .chunks
+      at-chunk e w = held-one (h .chunk) (z .chunks) (t .chunk .0) chunk-row e (w .chunk)
+
+      lives : t .chunk .0 < z .chunks → 0 < chunk s (t .chunk) .status
+      lives b = ⊎-elim (λ q. rw q (omega arith)) (λ q. rw (q .0) (omega arith)) (kept .tasks n .chunk-of-key b)
+
+      in-use : Holds z t h → pick (eqb (h .chunk) 0) true (ltb 0 (chunk s (t .chunk) .status)) ≡ true
+      in-use w = picked (λ (b : Bool). b ≡ true) (eqb (h .chunk) 0) (λ _. refl) (λ e. lt-ltb 0 (chunk s (t .chunk) .status) (lives (at-chunk e w)))
+
+      there : Holds z t h → pick (eqb (h .entry) 0) true (holdsEntry z s t) ≡ true
+      there w = picked (λ (b : Bool). b ≡ true) (eqb (h .entry) 0) (λ _. refl) (λ e. holds-entry n (held e))
+        where
+          held : eqb (h .entry) 0 ≡ false → EntryHeld z (s .chunks) (s .entries) (t .chunk) (t .entry) (t .key) (t .stage)
+          held e = kept .tasks n .entry (held-one (h .entry) (z .entries) (t .entry .0) (le-trans entry-row chunk-row) e (w .entry))
+
+      busy : Holds z t h → (fitsOperation (t .operation) (t .stage) and pick (usesFunction (t .operation)) (leb 1 (t .function) and leb (t .function) 3) true and holdsRight z s t h) ≡ true
+      busy w = both _ _ (w .fits) (both _ _ (w .function) (both _ _ (w .chunk) (both _ _ (w .entry) (both _ _ (w .old) (both _ _ (w .new) (both _ _ (w .published) (both _ _ (w .swapped) (both _ _ (in-use w) (there w)))))))))
+
+  pub has-shape : shape z s ≡ true
+  unfolding shape
+  has-shape = both _ _ sized-right (both _ _ marks-right (both _ _ (lt-ltb _ _ first) (both _ _ chunks-right (both _ _ chain-right (both _ _ (each-by (taskRight z s) 0 (s .tasks) idleTask (λ i b. task-right i)) rebalance-right)))))
+    where
+      first : s .directory .first .0 < z .chunks
+      first = chain-live z (s .chunks) 0 _ _ (tables .chained .chain) (s .directory .first) (List·Memᴰ·head refl) .0

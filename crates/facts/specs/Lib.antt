@@ -1,0 +1,4 @@
+pub mod Facts
+pub mod Reached
+pub mod ShapeHolds
+pub mod RangesCover

@@ -1,0 +1,3 @@
+pub mod Naming
+pub mod Free
+pub mod Passing

@@ -1,0 +1,1 @@
+// No function: facts of the handles that every call keeps.

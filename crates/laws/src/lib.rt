@@ -1,0 +1,1 @@
+// No function: laws of tests and lists, in proofs/.

@@ -1,0 +1,5 @@
+pub mod Rows
+pub mod Entries
+pub mod Chunks
+pub mod Copies
+pub mod Naming

@@ -1,0 +1,56 @@
+-- A chunk's list and the chain of live chunks, as relations between a number and a list of rows.
+use Prim.Native.Nat.{ℕ, zero, suc, _+_, _≤_, _<_}
+use mathlib.Core.Path.{_≡_}
+use mathlib.Core.Bool.{Bool, true, false}
+use mathlib.Core.List.{List, [], _∷_, _++_, List·Memᴰ}
+use lib.Dec.{eqb, ltb, leb}
+use Rattle.rules.specs.declared.Sizes.{Sizes}
+use Rattle.rules.specs.declared.Chunk.{Chunk}
+use Rattle.rules.specs.declared.Entry.{Entry}
+use Rattle.rules.specs.declared.ChunkNo.{ChunkNo}
+use Rattle.rules.specs.declared.EntryNo.{EntryNo}
+use Rattle.rules.specs.Words.{pick, _and_, NONE, live}
+use Rattle.rules.specs.Tables.{Tables, chunkAt, entryAt}
+use Rattle.rules.specs.Walks.{listFrom, locateFrom}
+
+-- the list from e on is of these entries, used ones, keys ascending from k on
+module _ (z : Sizes) (es : List Entry) (c : ChunkNo) (used : ℕ) where
+  unfoldable pub Links : ℕ → EntryNo → List EntryNo → Type 0
+  Links k e [] = e .0 ≡ NONE
+  Links k e (x ∷ l) = (e ≡ x) × (x .0 < used) × (k ≤ entryAt z es c x .key) × Links (entryAt z es c x .key + 1) (entryAt z es c x .next) l
+
+-- an entry with the key k, put into a list of entries where its key belongs
+module _ (z : Sizes) (es : List Entry) (c : ChunkNo) (e : EntryNo) (k : ℕ) where
+  unfoldable pub putIn : List EntryNo → List EntryNo
+  putIn [] = e ∷ []
+  putIn (x ∷ l) = let on = x ∷ putIn l in pick (ltb (entryAt z es c x .key) k) on (e ∷ x ∷ l)
+
+  -- what stands first then, where a stood
+  unfoldable pub startOf : EntryNo → List EntryNo → EntryNo
+  startOf a [] = e
+  startOf a (x ∷ l) = pick (ltb (entryAt z es c x .key) k) a e
+
+module _ (z : Sizes) (cs : List Chunk) where
+  -- the chain from c on is of these chunks, live ones, minimum keys ascending from k on
+  unfoldable pub Chain : ℕ → ChunkNo → List ChunkNo → Type 0
+  Chain k c [] = c .0 ≡ NONE
+  Chain k c (x ∷ l) = (c ≡ x) × (x .0 < z .chunks) × (chunkAt cs x .status ≡ live) × (k ≤ chunkAt cs x .min) × Chain (chunkAt cs x .min + 1) (chunkAt cs x .next) l
+
+  -- the chunks from c on, along next
+  unfoldable pub chainFrom : ℕ → ChunkNo → List ChunkNo
+  chainFrom zero c = []
+  chainFrom (suc fuel) c = let on = c ∷ chainFrom fuel (chunkAt cs c .next) in pick (ltb (c .0) (z .chunks)) on []
+
+-- the key lies in the chunk's range: from its minimum key up to the next live chunk's
+pub record InRange (z : Sizes) (cs : List Chunk) (c : ChunkNo) (k : ℕ) : Type 0 where
+  pub from : chunkAt cs c .min ≤ k
+  pub to : chunkAt cs c .next .0 < z .chunks → k < chunkAt cs (chunkAt cs c .next) .min
+
+-- the chain with new ones in the place of one
+unfoldable pub replaced : ChunkNo → List ChunkNo → List ChunkNo → List ChunkNo
+replaced old new [] = []
+replaced old new (x ∷ l) = let on = x ∷ replaced old new l in pick (eqb (x .0) (old .0)) (new ++ l) on
+
+-- the live chunks, in order
+abbrev pub chain : Sizes → Tables → List ChunkNo
+chain z s = chainFrom z (s .chunks) (z .chunks) (s .directory .first)

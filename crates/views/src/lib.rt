@@ -1,0 +1,1 @@
+// No function: views of the tables as lists, and their laws.
