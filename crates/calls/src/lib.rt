@@ -1,6 +1,7 @@
 // The calls over lent tables of any sizes: the slices' lengths are tested first, then the shape, then what the call itself refuses.
 mod making;
 mod starting;
+mod stepping;
 
 use rules::Report;
 use rules::Sizes;
@@ -104,6 +105,26 @@ pub fn start(
         return Report::Refused(10);
     }
     starting::start(z, tasks, n, op, k, a, f)
+}
+
+// Task `n` takes one step.
+pub fn step(
+    z: Sizes,
+    directory: &[u64],
+    tasks: &mut [u64],
+    chunks: &mut [u64],
+    entries: &mut [u64],
+    values: &mut [u64],
+    marks: &mut [u64],
+    n: u64,
+) -> Report
+    requires { ⌜ Fits z ⌝ }
+    ensures { λ r. ⌜ Promise z (Call.step n) (words (now (directory .entry)) (now (tasks .entry)) (now (chunks .entry)) (now (entries .entry)) (now (values .entry)) (now (marks .entry))) (words (now (directory .entry)) (now (tasks .exit)) (now (chunks .exit)) (now (entries .exit)) (now (values .exit)) (now (marks .exit))) r ⌝ }
+{
+    if !is_ready(z, directory, tasks, chunks, entries, values, marks) {
+        return Report::Refused(10);
+    }
+    stepping::step(z, directory, tasks, chunks, entries, values, marks, n)
 }
 
 // A rebalance begins with the chunk that has the key.
