@@ -1,4 +1,4 @@
--- The walk along the chain, one step, told by the row that the code has read, and the chunks of a status, counted row by row.
+-- The walk along the chain, one step, told by the row that the code has read; the chunks of a status, counted row by row; and the rebalance asked by that count.
 use Prim.Native.Nat.{ℕ, zero, suc, _+_, _-_, _≤_, _<_, zero-le}
 use mathlib.Core.Path.{_≡_, refl, sym, ap, _∙_}
 use mathlib.Core.Bool.{Bool, true, false, not}

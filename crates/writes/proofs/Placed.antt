@@ -2,14 +2,12 @@
 use Prim.Native.Nat.{ℕ, _<_}
 use mathlib.Core.Path.{_≡_, refl}
 use mathlib.Core.Bool.{Bool, true, false, false≢true}
-use mathlib.Core.List.{List}
 use native.Mathlib.Omega.{arith}
 use lib.Dec.{eqb, ltb}
 use lib.ListN.{getD}
 use borrow.Author.Tests.{ltb-true}
 use Rattle.rules.specs.declared.Sizes.{Sizes}
 use Rattle.rules.specs.declared.Task.{Task}
-use Rattle.rules.specs.declared.Chunk.{Chunk}
 use Rattle.rules.specs.declared.HandleNo.{HandleNo}
 use Rattle.rules.specs.declared.Write.{Write}
 use Rattle.rules.specs.declared.Write.the-variants as write
@@ -56,8 +54,8 @@ module _ (z : Sizes) (s : Tables) where
   Done x = Placed z (s .chunks) (x .write)
 
   module _ (t : Task) where
-    takes-entry : t .chunk .0 < z .chunks → Done (takesEntry z s t)
-    takes-entry c = picked Done (eqb (chunk s (t .chunk) .frozen) 0) (picked-by Done (ltb (chunk s (t .chunk) .used) (z .entries)) (λ used. (c, ltb-true _ _ used)) (λ full. tt)) tt
+    takes-placed : t .chunk .0 < z .chunks → Done (takesEntry z s t)
+    takes-placed c = picked Done (eqb (chunk s (t .chunk) .frozen) 0) (picked-by Done (ltb (chunk s (t .chunk) .used) (z .entries)) (λ used. (c, ltb-true _ _ used)) (λ full. tt)) tt
 
     links-placed : t .chunk .0 < z .chunks → t .entry .0 < z .entries → Done (links z s t)
     links-placed c e = picked Done (eqb (chunk s (t .chunk) .frozen) 0) (picked Done (ltb (find z s (t .chunk) (t .key) .0) (z .entries)) tt (c, e)) tt
@@ -72,6 +70,7 @@ module _ (z : Sizes) (s : Tables) where
   quiet : (t : Task) (n : ℕ) → plain (stageDoes n z s t .write) ≡ true → At t n
   quiet t n h c e = asks-nothing (stageDoes n z s t .write) h
 
+  -- the law: what a step decides can be done
   pub placed : (t : Task) → Held z t → t .stage < 23 → Placed z (s .chunks) (decide z s t .write)
   unfolding stageDoes plain
   placed t held known =
@@ -82,7 +81,7 @@ module _ (z : Sizes) (s : Tables) where
       (quiet t 3 (simp plainly))
       (quiet t 4 (simp plainly))
       (quiet t 5 (simp plainly))
-      (λ c e. takes-entry t (c refl))
+      (λ c e. takes-placed t (c refl))
       (λ c e. links-placed t (c refl) (e refl))
       (quiet t 8 (simp plainly))
       (quiet t 9 refl)
