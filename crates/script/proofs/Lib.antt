@@ -1,1 +1,5 @@
+pub mod Asking
+pub mod Numbers
 pub mod Putting
+pub mod Taking
+pub mod Verbs

@@ -7,6 +7,7 @@ pub use line::Asked;
 pub use line::Line;
 pub use line::asks;
 pub use line::empty;
+pub use line::meant;
 pub use line::next;
 pub use print::byte;
 pub use print::field;

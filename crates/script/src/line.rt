@@ -1,7 +1,12 @@
 // A script's lines: a state that takes a line byte by byte, and what the finished line asks.
 // A line may have any length and hold any byte but the newline that ends it.
-
+ghost use Prim.Native.Nat.{ℕ, _+_};
 ghost use mathlib.Core.Path.{_≡_};
+ghost use mathlib.Core.List.{List, [], _∷_, _++_};
+ghost use lib.Dec.{ltb};
+ghost use Rattle.rules.specs.Words.{pick};
+ghost use Rattle.script.specs.Lines.{blank, meaning};
+ghost use Rattle.script.specs.Reading.{spell, extend, Reads, firstBegun, firstGrown, numberBegun, numberGrown, bareOf, withOne};
 
 // What a line asks.
 pub enum Asked {
@@ -16,7 +21,7 @@ pub enum Asked {
     Tables,
 }
 
-// What is kept of the bytes read so far.
+// What is kept of the bytes taken so far.
 pub struct Line {
     // the last byte belongs to a word
     pub inside: bool,
@@ -66,7 +71,9 @@ fn wide(b: u8) -> u64
 }
 
 // Space and tab.
-pub fn is_blank(b: u8) -> bool {
+fn is_blank(b: u8) -> bool
+    ensures { λ r. ⌜ r ≡ blank b ⌝ }
+{
     if b == 32 {
         return true;
     }
@@ -74,7 +81,9 @@ pub fn is_blank(b: u8) -> bool {
 }
 
 // A packed word with one letter more: five bits to a letter.
-pub fn spelled(verb: u64, b: u8) -> u64 {
+fn spelled(verb: u64, b: u8) -> u64
+    ensures { λ r. ⌜ r ≡ spell verb b ⌝ }
+{
     if b < 97 {
         return NO_WORD;
     }
@@ -88,7 +97,9 @@ pub fn spelled(verb: u64, b: u8) -> u64 {
 }
 
 // A number with one digit more.
-pub fn digit(good: bool, value: u64, b: u8) -> Number {
+fn digit(good: bool, value: u64, b: u8) -> Number
+    ensures { λ r. ⌜ r ≡ extend good value b ⌝ }
+{
     if !good {
         return Number {
             good: false,
@@ -127,12 +138,16 @@ pub fn digit(good: bool, value: u64, b: u8) -> Number {
     }
 }
 
-fn more(words: u64) -> u64 {
+fn more(words: u64) -> u64
+    ensures { λ r. ⌜ r ≡ pick (ltb words 7) (words + 1) 7 ⌝ }
+{
     if words < 7 { words + 1 } else { 7 }
 }
 
 // A line of which nothing has been read.
-pub fn empty() -> Line {
+pub fn empty() -> Line
+    ensures { λ r. ⌜ Reads r [] ⌝ }
+{
     Line {
         inside: false,
         words: 0,
@@ -148,7 +163,9 @@ pub fn empty() -> Line {
 }
 
 // The first word begins.
-fn first_begins(b: u8) -> Line {
+fn first_begins(b: u8) -> Line
+    ensures { λ r. ⌜ r ≡ firstBegun b ⌝ }
+{
     Line {
         inside: true,
         words: 1,
@@ -164,14 +181,18 @@ fn first_begins(b: u8) -> Line {
 }
 
 // The first word goes on.
-fn first_grows(s: Line, b: u8) -> Line {
+fn first_grows(s: Line, b: u8) -> Line
+    ensures { λ r. ⌜ r ≡ firstGrown s b ⌝ }
+{
     let mut t = s;
     t.verb = spelled(s.verb, b);
     t
 }
 
 // A word after the first begins.
-fn number_begins(s: Line, b: u8) -> Line {
+fn number_begins(s: Line, b: u8) -> Line
+    ensures { λ r. ⌜ r ≡ numberBegun s b ⌝ }
+{
     let n = digit(s.good, 0, b);
     Line {
         inside: true,
@@ -188,7 +209,9 @@ fn number_begins(s: Line, b: u8) -> Line {
 }
 
 // A word after the first goes on.
-fn number_grows(s: Line, b: u8) -> Line {
+fn number_grows(s: Line, b: u8) -> Line
+    ensures { λ r. ⌜ r ≡ numberGrown s b ⌝ }
+{
     let n = digit(s.good, s.e, b);
     let mut t = s;
     t.good = n.good;
@@ -197,7 +220,9 @@ fn number_grows(s: Line, b: u8) -> Line {
 }
 
 // The line with one byte more, which is no newline.
-pub fn next(s: Line, b: u8) -> Line {
+pub fn next(s: Line, b: u8) -> Line
+    ensures { λ r. ⌜ ((l : List ℕ) → Reads s l → Reads r (l ++ (b ∷ []))) ⌝ }
+{
     if is_blank(b) {
         let mut t = s;
         t.inside = false;
@@ -216,7 +241,9 @@ pub fn next(s: Line, b: u8) -> Line {
 }
 
 // A verb with no number after it.
-fn bare(verb: u64) -> Asked {
+fn bare(verb: u64) -> Asked
+    ensures { λ r. ⌜ r ≡ bareOf verb ⌝ }
+{
     if verb == REBALANCE {
         return Asked::Rebalance;
     }
@@ -227,7 +254,9 @@ fn bare(verb: u64) -> Asked {
 }
 
 // A verb with one number after it.
-fn with_one(verb: u64, e: u64) -> Asked {
+fn with_one(verb: u64, e: u64) -> Asked
+    ensures { λ r. ⌜ r ≡ withOne verb e ⌝ }
+{
     if verb == STEP {
         return Asked::Step(e);
     }
@@ -238,7 +267,9 @@ fn with_one(verb: u64, e: u64) -> Asked {
 }
 
 // What the line asks, if it ends here.
-pub fn asks(s: Line) -> Asked {
+pub fn asks(s: Line) -> Asked
+    ensures { λ r. ⌜ ((l : List ℕ) → Reads s l → r ≡ meaning l) ⌝ }
+{
     if s.words == 0 {
         return Asked::Nothing;
     }
@@ -261,4 +292,17 @@ pub fn asks(s: Line) -> Asked {
         return Asked::Start(s.a, s.b, s.c, s.d, s.e);
     }
     Asked::NoCall
+}
+
+// What a line in hand asks: its bytes taken one by one.
+pub fn meant(line: &[u8]) -> Asked
+    ensures { λ r. ⌜ r ≡ meaning (now (line .entry)) ⌝ }
+{
+    let mut s = empty();
+    let mut i = 0;
+    while i < line.len() {
+        s = next(s, line[i]);
+        i += 1;
+    }
+    asks(s)
 }
