@@ -45,7 +45,7 @@ module _ (z : Sizes) (lim : Limited z) (s : Tables) (kept : Kept z s) (copying :
   abbrev old : ChunkNo
   old = s .directory .old
 
-  old-in : old .0 < z .chunks
+  pub old-in : old .0 < z .chunks
   old-in = q .old (omega arith)
 
   old-role : (chunk s old .frozen ≡ 1) × (chunk s old .status ≡ live)
@@ -55,16 +55,16 @@ module _ (z : Sizes) (lim : Limited z) (s : Tables) (kept : Kept z s) (copying :
   abbrev l : List Entry
   l = namingFrom z (s .entries) old (z .entries) (chunk s old .head)
 
-  links : Links z (s .entries) old (chunk s old .used) 0 (chunk s old .head) (listed z (s .chunks) (s .entries) old)
+  pub links : Links z (s .entries) old (chunk s old .used) 0 (chunk s old .head) (listed z (s .chunks) (s .entries) old)
   links = h .lists old old-in .links
 
-  small : chunk s old .used ≤ z .entries
+  pub small : chunk s old .used ≤ z .entries
   small = h .lists old old-in .row .used
 
   l-rising : Rising 0 l
   l-rising = naming-rising z (s .entries) old (chunk s old .used) small (lim .entries) (z .entries) 0 (chunk s old .head) (listed z (s .chunks) (s .entries) old) links
 
-  l-short : length l ≤ z .entries
+  pub l-short : length l ≤ z .entries
   l-short = le-trans (naming-length z (s .entries) old (chunk s old .used) small (lim .entries) (z .entries) 0 (chunk s old .head) (listed z (s .chunks) (s .entries) old) links) (le-trans (links-length z (s .entries) old (chunk s old .used) 0 (chunk s old .head) (listed z (s .chunks) (s .entries) old) links) small)
 
   l-handles : Every (λ x. numbers (z .handles) (x .handle .0) ≡ true) l
@@ -83,13 +83,13 @@ module _ (z : Sizes) (lim : Limited z) (s : Tables) (kept : Kept z s) (copying :
   room : 2 ≤ unusedCount (s .chunks)
   room = q .room (omega arith) (omega arith)
 
-  a-free : (a .0 < z .chunks) × (chunk s a .status ≡ unused)
+  pub a-free : (a .0 < z .chunks) × (chunk s a .status ≡ unused)
   a-free = (rw (← (h .chunks-sized)) (unused-first (s .chunks) (le-trans (omega arith) room) .0), unused-first (s .chunks) (le-trans (omega arith) room) .1)
 
   b-found : (b .0 < length (s .chunks)) × (chunk s b .status ≡ unused) × (a .0 + 1 ≤ b .0)
   b-found = unused-next (s .chunks) (a .0 + 1) (omega (arith, room, unused-first (s .chunks) (le-trans (omega arith) room) .2))
 
-  b-free : (b .0 < z .chunks) × (chunk s b .status ≡ unused)
+  pub b-free : (b .0 < z .chunks) × (chunk s b .status ≡ unused)
   b-free = (rw (← (h .chunks-sized)) (b-found .0), b-found .1)
 
   b-apart : b ≢ a
@@ -205,7 +205,7 @@ module _ (z : Sizes) (lim : Limited z) (s : Tables) (kept : Kept z s) (copying :
     abbrev least : ℕ
     least = getD l half emptyEntry .key
 
-    inner : half < length l
+    pub inner : half < length l
     inner = omega (arith, lim .two)
 
     abbrev l₁ : List Entry
@@ -214,10 +214,10 @@ module _ (z : Sizes) (lim : Limited z) (s : Tables) (kept : Kept z s) (copying :
     abbrev l₂ : List Entry
     l₂ = drop half l
 
-    l₁-short : length l₁ ≤ z .entries
+    pub l₁-short : length l₁ ≤ z .entries
     l₁-short = rw length-take (le-trans (min-le-left half (length l)) (le-trans (omega (arith, inner)) l-short))
 
-    l₂-short : length l₂ ≤ z .entries
+    pub l₂-short : length l₂ ≤ z .entries
     l₂-short = rw length-drop (omega (arith, l-short))
 
     l₂-rising : Rising 0 l₂

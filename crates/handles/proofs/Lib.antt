@@ -1,3 +1,5 @@
 pub mod Naming
 pub mod Free
 pub mod Passing
+pub mod Owning
+pub mod Keys

@@ -56,17 +56,22 @@ module _ (z : Sizes) where
         -- a row of the new table is the one written, or one of the old table
         Kind : ChunkNo → EntryNo → Type 0
         Kind d f = ((d ≡ c) × (f ≡ e)) ⊎ (entryAt z named d f ≡ entryAt z es d f)
+
         kind : (d : ChunkNo) (f : EntryNo) → Row z d f → Kind d f
         kind d f r = elim (ℕ-discrete (d .0) (c .0)) [ yes p ↦ elim (ℕ-discrete (f .0) (e .0)) [ yes q ↦ inl (ap (λ (m : ℕ). record { 0 = m }) p, ap (λ (m : ℕ). record { 0 = m }) q) | no nq ↦ inr (old (λ _ q. nq (ap (λ (f : EntryNo). f .0) q))) ] | no np ↦ inr (old (λ p _. np (ap (λ (d : ChunkNo). d .0) p))) ]
           where
             old : (d ≡ c → f ≡ e → ⊥) → entryAt z named d f ≡ entryAt z es d f
             old ne = name-cases d f (λ v. v ≡ entryAt z es d f) r (λ p q. absurd (ne p q)) (λ _. refl)
+
         key-at : {d g : ChunkNo} {f i : EntryNo} → d ≡ g → f ≡ i → entryAt z named d f .key ≡ entryAt z named g i .key
         key-at p q = rw (p, q)
+
         is-new : {i : ℕ} (v : NamedUnder z named n i) → (v .chunk ≡ c) × (v .entry ≡ e) → h .0 ≡ n
         is-new v p = name-cases (v .chunk) (v .entry) (λ y. y .handle .0 ≡ n → h .0 ≡ n) (v .row) (λ _ _ q. q) (λ ne. absurd (ne (p .0) (p .1))) (v .names)
+
         was : {i : ℕ} (v : NamedUnder z named n i) → entryAt z named (v .chunk) (v .entry) ≡ entryAt z es (v .chunk) (v .entry) → NamedUnder z es n i
         was v p = record { chunk = v .chunk; entry = v .entry; row = v .row; names = sym (ap (λ (y : Entry). y .handle .0) p) ∙ v .names; keyed = sym (ap (λ (y : Entry). y .key) p) ∙ v .keyed }
+
         both-ways : Kind (x .chunk) (x .entry) → Kind (y .chunk) (y .entry) → j ≡ k
         both-ways (inl p) (inl q) = sym (x .keyed) ∙ key-at (p .0 ∙ sym (q .0)) (p .1 ∙ sym (q .1)) ∙ y .keyed
         both-ways (inl p) (inr q) = absurd (un (y .chunk) (y .entry) (y .row) (sym (ap (λ (v : Entry). v .handle .0) q) ∙ y .names ∙ sym (is-new x p)))
@@ -106,12 +111,14 @@ module _ (z : Sizes) where
       where
         Own : Type 0
         Own = Unnamed z es (t′ .new .0) × ((j : ℕ) → tasks′ j .old .0 ≢ t′ .new .0) × ((j : ℕ) → j ≢ n → tasks j .new .0 ≢ t′ .new .0)
+
         go : (t′ .new .0 ≡ NONE) ⊎ (((t′ .new .0 ≡ tasks n .new .0) × (t′ .swapped ≡ 0 → tasks n .swapped ≡ 0)) ⊎ (Unnamed z es (t′ .new .0) × ((m : ℕ) → (tasks m .old .0 ≢ t′ .new .0) × (tasks m .new .0 ≢ t′ .new .0)) × (t′ .old .0 ≢ t′ .new .0))) → Own
         go (inl e) = absurd (not-none b e)
         go (inr (inl e)) = (un, old-not (t′ .new .0) b un (λ j q. o .not-old j (q ∙ e .0)), λ j ne q. o .not-new j ne (q ∙ e .0))
           where
             o : NewOwn z es tasks n
             o = own .new-own n (rw (← (e .0)) b) (e .1 w)
+
             un : Unnamed z es (t′ .new .0)
             un = rw (e .0) (o .unnamed)
         go (inr (inr e)) = (e .0, old-not (t′ .new .0) b (e .0) (λ j. e .1 j .0), λ j _. e .1 j .1)
@@ -124,6 +131,7 @@ module _ (z : Sizes) where
           where
             x : Unnamed z es (t′ .new .0) × ((j : ℕ) → tasks′ j .old .0 ≢ t′ .new .0) × ((j : ℕ) → j ≢ n → tasks j .new .0 ≢ t′ .new .0)
             x = new-here (rw (e .1) at b) (rw (e .1) at w)
+
             other : (j : ℕ) → j ≢ n → ((j ≡ n) × (tasks′ j ≡ t′)) ⊎ ((j ≢ n) × (tasks′ j ≡ tasks j)) → tasks′ j .new .0 ≢ t′ .new .0
             other j ne (inl r) q = absurd (ne (r .0))
             other j ne (inr r) q = x .2 j ne (sym (ap (λ (t : Task). t .new .0) (r .1)) ∙ q)
@@ -131,10 +139,12 @@ module _ (z : Sizes) where
           where
             o : NewOwn z es tasks m
             o = own .new-own m (rw (e .1) at b) (rw (e .1) at w)
+
             taken : t′ .new .0 ≡ tasks m .new .0 → (t′ .new .0 ≡ NONE) ⊎ (((t′ .new .0 ≡ tasks n .new .0) × (t′ .swapped ≡ 0 → tasks n .swapped ≡ 0)) ⊎ (Unnamed z es (t′ .new .0) × ((m : ℕ) → (tasks m .old .0 ≢ t′ .new .0) × (tasks m .new .0 ≢ t′ .new .0)) × (t′ .old .0 ≢ t′ .new .0))) → ⊥
             taken q (inl r) = not-none (rw (e .1) at b) (sym q ∙ r)
             taken q (inr (inl r)) = o .not-new n (λ i. e .0 (sym i)) (sym (r .0) ∙ q)
             taken q (inr (inr r)) = r .1 m .1 (sym q)
+
             other : (j : ℕ) → j ≢ m → ((j ≡ n) × (tasks′ j ≡ t′)) ⊎ ((j ≢ n) × (tasks′ j ≡ tasks j)) → tasks′ j .new .0 ≢ tasks m .new .0
             other j ne (inl r) q = taken (sym (ap (λ (t : Task). t .new .0) (r .1)) ∙ q) (p .new)
             other j ne (inr r) q = o .not-new j ne (sym (ap (λ (t : Task). t .new .0) (r .1)) ∙ q)

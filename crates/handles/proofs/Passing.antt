@@ -123,5 +123,6 @@ module _ (z : Sizes) (lim : Limited z) (s : Tables) (h : Tabled z (s .directory)
     where
       m : ℕ
       m = t .stage
+
       P : (Sizes → Tables → Task → Decision) → Type 0
       P f = Passed (f z s t)

@@ -1,0 +1,42 @@
+-- No handle is named under two keys, in every reached table.
+use Prim.Native.Nat.{ℕ, zero, suc, _*_, _≤_, _<_}
+use mathlib.Core.Path.{_≡_, refl, sym, ap, _∙_}
+use mathlib.Core.Logic.{_≢_}
+use mathlib.Core.List.{List}
+use native.Mathlib.Nat.{le-trans}
+use native.Mathlib.Omega.{arith}
+use lib.ListN.{getD, replicate}
+use Rattle.rules.specs.declared.Sizes.{Sizes}
+use Rattle.rules.specs.declared.ChunkNo.{ChunkNo}
+use Rattle.rules.specs.declared.EntryNo.{EntryNo}
+use Rattle.rules.specs.declared.HandleNo.{HandleNo}
+use Rattle.rules.specs.Words.{NONE}
+use Rattle.rules.specs.Tables.{Tables, idleTask, emptyEntry, entryAt, row, task}
+use Rattle.rules.specs.Calls.{Call, fresh, calls}
+use Rattle.facts.specs.Facts.{Limited, Kept}
+use Rattle.facts.specs.Reached.{Reached}
+use Rattle.facts.proofs.Fresh.{getD-all}
+use Rattle.facts.proofs.Reaching.{calls-does, reached-kept}
+use Rattle.handles.specs.Owned.{Row, NamedUnder, Owned}
+use Rattle.handles.specs.OneKeyEach.{InUse, OneKeyEach}
+use Rattle.handles.proofs.Owning.{OwnedBy, does-owned}
+
+module _ (z : Sizes) (lim : Limited z) where
+  fresh-owned : OwnedBy z (fresh z)
+  fresh-owned = record { one-key = λ h j k b x _. absurd (never h b (sym (x .names) ∙ row-none (x .chunk) (x .entry))); new-own = λ n b _. absurd (never _ b (ap (λ t. t .new .0) (getD-all (z .tasks) n idleTask))) }
+    where
+      never : (h : ℕ) → h < z .handles → h ≡ NONE → ⊥
+      never h b e = omega (arith, lim .handles)
+
+      row-none : (c : ChunkNo) (e : EntryNo) → entryAt z (replicate (z .chunks * z .entries) emptyEntry) c e .handle .0 ≡ NONE
+      row-none c e = ap (λ x. x .handle .0) (getD-all (z .chunks * z .entries) (row z c e) emptyEntry)
+
+  call-owned : (s : Tables) → Kept z s → OwnedBy z s → (c : Call) → OwnedBy z (calls z s c .tables)
+  call-owned s k own c = rw (calls-does z lim s k c) (does-owned z lim s k own c)
+
+  pub reached-owned : {s : Tables} → Reached z s → OwnedBy z s
+  reached-owned Reached.started = fresh-owned
+  reached-owned (Reached.called {s = s′} r c) = call-owned s′ (reached-kept z lim r) (reached-owned r) c
+
+  pub one-key-each : OneKeyEach z
+  one-key-each = record { one-key = λ s r c d e f x y b q. let k = reached-kept z lim r in reached-owned r .one-key _ _ _ b (record { chunk = c; entry = e; row = record { chunk = x .numbered; entry = le-trans (x .entry) (k .tables .lists c (x .numbered) .row .used) }; names = refl; keyed = refl }) (record { chunk = d; entry = f; row = record { chunk = y .numbered; entry = le-trans (y .entry) (k .tables .lists d (y .numbered) .row .used) }; names = ap (λ (h : HandleNo). h .0) (sym q); keyed = refl }) }
