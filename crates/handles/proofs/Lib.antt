@@ -3,3 +3,4 @@ pub mod Free
 pub mod Passing
 pub mod Owning
 pub mod Keys
+pub mod Handing

@@ -127,7 +127,7 @@ abbrev pub OwnedBy : Sizes → Tables → Type 0
 OwnedBy z s = Owned z (s .entries) (task s)
 
 -- a task's row read after one was written
-put-tasks : (z : Sizes) (ts : List Task) (n : ℕ) (t : Task) → n < length ts → put z (λ m. getD ts m idleTask) (λ m. getD (set ts n t) m idleTask) n t
+pub put-tasks : (z : Sizes) (ts : List Task) (n : ℕ) (t : Task) → n < length ts → put z (λ m. getD ts m idleTask) (λ m. getD (set ts n t) m idleTask) n t
 put-tasks z ts n t b m = elim (ℕ-discrete m n) [ yes e ↦ inl (e, there e) | no ne ↦ inr (ne, getD-set-other ts n m t idleTask ne) ]
   where
     there : m ≡ n → getD (set ts n t) m idleTask ≡ t
