@@ -1,0 +1,1 @@
+// No function: facts of publishers and of unlinked entries that every call keeps.
