@@ -1,1 +1,1 @@
-// No function: facts of publishers and of unlinked entries that every call keeps.
+// No function: the fact of publishers that every call keeps.
