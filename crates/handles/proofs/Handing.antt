@@ -37,7 +37,7 @@ use Rattle.handles.proofs.Owning.{put-tasks}
 
 module _ (z : Sizes) (s : Tables) where
   -- ---- the rebalance leaves the tasks
-  abbrev SameTasks : Tables → Type 0
+  abbrev pub SameTasks : Tables → Type 0
   SameTasks x = x .tasks ≡ s .tasks
 
   fill-tasks : (x : Tables) (c : ChunkNo) (l : List Entry) → fill z x c 0 l .tasks ≡ x .tasks
@@ -64,7 +64,7 @@ module _ (z : Sizes) (s : Tables) where
       b : ChunkNo
       b = unusedFrom (drop (a .0 + 1) (s .chunks)) (a .0 + 1)
 
-  swap-tasks : SameTasks (swapsIn z s .tables)
+  pub swap-tasks : SameTasks (swapsIn z s .tables)
   swap-tasks =
       picked SameTasks (ltb (s .directory .second .0) (z .chunks)) {x = putChunk two (s .directory .second) (liveBefore (chunk s (s .directory .second)) (chunk s (s .directory .old) .next))} {y = two} (λ _. first) (λ _. first)
     where

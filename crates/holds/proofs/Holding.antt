@@ -38,7 +38,7 @@ use Rattle.facts.proofs.Copying
 use Rattle.facts.proofs.Making.{newRow}
 use Rattle.facts.proofs.Reaching.{calls-does, reached-kept}
 use Rattle.handles.proofs.Owning.{put-tasks}
-use Rattle.handles.proofs.Handing.{rebalance-tasks, begin-tasks}
+use Rattle.handles.proofs.Handing.{swap-tasks}
 use Rattle.holds.specs.Held.{PublisherLive, Held}
 use Rattle.holds.proofs.Publishing.{Publishes, decides-publish}
 
@@ -69,19 +69,25 @@ module _ (z : Sizes) (lim : Limited z) (s : Tables) (kept : Kept z s) (held : He
     where
       r : Roles (s .directory) (c .0) (chunk s c)
       r = q .roles c b
+
       zero-one : _≡_ {A = ℕ} 0 1 → ⊥
       zero-one e = omega arith
+
       not-old : c ≢ s .directory .old
       not-old e = zero-one (sym f ∙ r .old (ap (λ (c : ChunkNo). c .0) (sym e)) .0)
+
       old-ne : s .directory .old .0 ≢ c .0
       old-ne e = not-old (sym (ap chunkNo e))
+
       of-new : (s .directory .new .0 ≡ c .0) ⊎ (s .directory .second .0 ≡ c .0) → chunk s c .status ≢ retired
       of-new o e = picked (λ (n : ℕ). n ≡ retired → ⊥) (eqb (s .directory .stage) toRelease) (λ _ w. omega arith) (λ _ w. omega arith) (sym (r .new old-ne o .1) ∙ e)
+
       by-role : chunk s c .status ≢ retired
       by-role e = elim (ℕ-discrete (s .directory .new .0) (c .0)) [ yes i ↦ of-new (inl i) e | no n1 ↦ elim (ℕ-discrete (s .directory .second .0) (c .0)) [ yes i ↦ of-new (inr i) e | no n2 ↦ ⊎-elim (λ (w : chunk s c .status ≡ unused). three (sym w ∙ e)) (λ (w : chunk s c .status ≡ live). one (sym w ∙ e)) (r .other old-ne n1 n2 .1) ] ]
         where
           three : _≡_ {A = ℕ} 0 3 → ⊥
           three w = omega arith
+
           one : _≡_ {A = ℕ} 1 3 → ⊥
           one w = omega arith
 
@@ -102,21 +108,28 @@ module _ (z : Sizes) (lim : Limited z) (s : Tables) (kept : Kept z s) (held : He
     where
       x : Decision
       x = Stages.decide z s (task s n)
+
       s₁ : Tables
       s₁ = putTask s n (x .task)
+
       s′ : Tables
       s′ = Stages.apply z s₁ (x .write)
+
       a : Applied z s₁ s′
       a = applied-by z lim s₁ (kept .tables) (x .write) (decides-fine z lim s (kept .tables) (task s n) (kept .tasks n) .allowed)
+
       moved : (t : Task) → PublisherLive z (s .directory) (s .chunks) t → PublisherLive z (s′ .directory) (s′ .chunks) t
       moved t p = record { numbered = p .numbered; isLive = a .written .same .status (t .chunk) ∙ p .isLive; drains = rw (a .directory) (p .drains) }
+
       own : x .task .published ≡ 1 → PublisherLive z (s′ .directory) (s′ .chunks) (x .task)
       own p = moved (x .task) (record { numbered = rw (w .0) (at .numbered); isLive = rw (w .0) (at .isLive); drains = rw (w .0) (at .drains) })
         where
           w : (x .task .chunk ≡ task s n .chunk) × ((task s n .published ≡ 1) ⊎ ((chunk s (task s n .chunk) .frozen ≡ 0) × (task s n .chunk .0 < z .chunks)))
           w = decides-publish z s (task s n) (kept .tasks n) .publishes p
+
           newly : (chunk s (task s n .chunk) .frozen ≡ 0) × (task s n .chunk .0 < z .chunks) → PublisherLive z (s .directory) (s .chunks) (task s n)
           newly u = record { numbered = u .1; isLive = ⊎-elim (λ r. absurd (unfrozen (task s n .chunk) (u .1) (u .0) .0 r)) (λ r. r .0) (kept .tasks n .chunk-of-key (u .1)); drains = λ _. unfrozen (task s n .chunk) (u .1) (u .0) .1 }
+
           at : PublisherLive z (s .directory) (s .chunks) (task s n)
           at = ⊎-elim (λ r. held .publisher-live n r) newly (w .1)
 
@@ -135,6 +148,7 @@ module _ (z : Sizes) (lim : Limited z) (s : Tables) (kept : Kept z s) (held : He
     where
       O : Outcome → Type 0
       O o = Held z (o .tables)
+
       never : _≡_ {A = ℕ} 0 1 → ⊥
       never p = omega arith
 
@@ -156,31 +170,40 @@ module _ (z : Sizes) (lim : Limited z) (s : Tables) (kept : Kept z s) (held : He
 
   copy-held : s .directory .stage ≡ toCopy → Held z (copies z s .tables)
   copy-held stage =
-      picked (λ (o : Outcome). Held z (o .tables) ) (leb (length l) (z .entries / 2))
+      picked (λ (o : Outcome). Held z (o .tables)) (leb (length l) (z .entries / 2))
       (λ _. rw (fill-is z a (withDirectory s (at z s toSwap a noChunk)) 0 l) (left _ refl (λ t p _ n _. record { numbered = p .numbered; isLive = first l t p; drains = λ _. p .drains drained })))
       (λ _. rw (fill-is z a (withDirectory s (at z s toSwap a b)) 0 l₁, fill-is z b (withChunks (withEntries (withDirectory s (at z s toSwap a b)) (filled z a 0 l₁ (s .entries))) (set (s .chunks) (a .0) (newRow (chunk s old .min) l₁))) 0 l₂) (left _ refl (λ t p _ n _. record { numbered = p .numbered; isLive = live-put (set (s .chunks) (a .0) (newRow (chunk s old .min) l₁)) b (newRow (getD l half emptyEntry .key) l₂) (t .chunk) (λ e. absurd (unlike (t .chunk) b (p .isLive) (Copying.b-free z lim s kept stage .1) e)) (first l₁ t p); drains = λ _. p .drains drained })))
     where
       old : ChunkNo
       old = s .directory .old
+
       l : List Entry
       l = namingFrom z (s .entries) old (z .entries) (chunk s old .head)
+
       half : ℕ
       half = (length l + 1) / 2
+
       l₁ : List Entry
       l₁ = take half l
+
       l₂ : List Entry
       l₂ = drop half l
+
       a : ChunkNo
       a = unusedFrom (s .chunks) 0
+
       b : ChunkNo
       b = unusedFrom (drop (a .0 + 1) (s .chunks)) (a .0 + 1)
+
       drained : toCopy ≤ s .directory .stage
       drained = omega arith
+
       unlike : (c d : ChunkNo) → chunk s c .status ≡ live → chunk s d .status ≡ unused → c ≢ d
       unlike c d x y e = never (sym x ∙ ap (λ (c : ChunkNo). chunk s c .status) e ∙ y)
         where
           never : _≡_ {A = ℕ} 1 0 → ⊥
           never w = omega arith
+
       first : (r : List Entry) (t : Task) → PublisherLive z (s .directory) (s .chunks) t → chunkAt (set (s .chunks) (a .0) (newRow (chunk s old .min) r)) (t .chunk) .status ≡ live
       first r t p = live-put (s .chunks) a (newRow (chunk s old .min) r) (t .chunk) (λ e. absurd (unlike (t .chunk) a (p .isLive) (Copying.a-free z lim s kept stage .1) e)) (p .isLive)
 
@@ -191,7 +214,73 @@ module _ (z : Sizes) (lim : Limited z) (s : Tables) (kept : Kept z s) (held : He
     where
       to : Directory
       to = record { first = s .directory .first; stage = idle; old = noChunk; new = noChunk; second = noChunk }
+
       drained : toCopy ≤ s .directory .stage
       drained = omega arith
+
       early : 2 ≤ 0 → ⊥
       early le = omega arith
+
+  swap-held : s .directory .stage ≡ toSwap → Held z (swapsIn z s .tables)
+  swap-held stage = left (swapsIn z s .tables) (swap-tasks z s) (λ t p _ n _. record { numbered = p .numbered; isLive = last (t .chunk) (p .isLive) (p .drains drained); drains = λ _. p .drains drained })
+    where
+      drained : toCopy ≤ s .directory .stage
+      drained = omega arith
+
+      old : ChunkNo
+      old = s .directory .old
+
+      one : Tables
+      one = pick (eqb (s .directory .first .0) (old .0)) s (putChunk s (beforeOld z s) (withNextChunk (chunk s (beforeOld z s)) (s .directory .new)))
+
+      row-a : Chunk
+      row-a = liveBefore (chunk s (s .directory .new)) (pick (ltb (s .directory .second .0) (z .chunks)) (s .directory .second) (chunk s old .next))
+
+      two : Tables
+      two = putChunk one (s .directory .new) row-a
+
+      row-b : Chunk
+      row-b = liveBefore (chunk s (s .directory .second)) (chunk s old .next)
+
+      three : Tables
+      three = pick (ltb (s .directory .second .0) (z .chunks)) (putChunk two (s .directory .second) row-b) two
+
+      at-one : (c : ChunkNo) → chunk s c .status ≡ live → chunkAt (one .chunks) c .status ≡ live
+      at-one c l = picked (λ (x : Tables). chunkAt (x .chunks) c .status ≡ live) (eqb (s .directory .first .0) (old .0)) (λ _. l) (λ _. live-put (s .chunks) (beforeOld z s) (withNextChunk (chunk s (beforeOld z s)) (s .directory .new)) c (λ e. ap (λ (c : ChunkNo). chunk s c .status) (sym e) ∙ l) l)
+
+      at-two : (c : ChunkNo) → chunk s c .status ≡ live → chunkAt (two .chunks) c .status ≡ live
+      at-two c l = live-put (one .chunks) (s .directory .new) row-a c (λ _. refl) (at-one c l)
+
+      at-three : (c : ChunkNo) → chunk s c .status ≡ live → chunkAt (three .chunks) c .status ≡ live
+      at-three c l = picked (λ (x : Tables). chunkAt (x .chunks) c .status ≡ live) (ltb (s .directory .second .0) (z .chunks)) (λ _. live-put (two .chunks) (s .directory .second) row-b c (λ _. refl) (at-two c l)) (λ _. at-two c l)
+
+      last : (c : ChunkNo) → chunk s c .status ≡ live → c ≢ old → chunkAt (swapsIn z s .tables .chunks) c .status ≡ live
+      last c l ne = live-put (three .chunks) old (withStatus (chunk s old) retired) c (λ e. absurd (ne e)) (at-three c l)
+
+  pub does-held : (c : Call) → Held z (does z s c .tables)
+  unfolding does rebalanceDoes
+  does-held (start n op k a f) = start-held n op k a f
+  does-held (step n) = step-held n
+  does-held (begin k) = begin-held k
+  does-held rebalance =
+      picked Q (eqb (s .directory .stage) toDrain) (λ _. drain-held)
+      (λ _. picked Q (eqb (s .directory .stage) toCopy) (λ e. copy-held (eqb-true _ _ e))
+      (λ _. picked Q (eqb (s .directory .stage) toSwap) (λ e. swap-held (eqb-true _ _ e))
+      (λ _. picked Q (eqb (s .directory .stage) toRelease) (λ e. release-held (eqb-true _ _ e)) (λ _. held))))
+    where
+      Q : (Sizes → Tables → Outcome) → Type 0
+      Q f = Held z (f z s .tables)
+
+module _ (z : Sizes) (lim : Limited z) where
+  fresh-held : Held z (fresh z)
+  fresh-held = record { publisher-live = λ n p. absurd (never (sym (ap (λ (t : Task). t .published) (getD-all (z .tasks) n idleTask)) ∙ p)) }
+    where
+      never : _≡_ {A = ℕ} 0 1 → ⊥
+      never e = omega arith
+
+  call-held : (s : Tables) → Kept z s → Held z s → (c : Call) → Held z (calls z s c .tables)
+  call-held s k held c = rw (calls-does z lim s k c) (does-held z lim s k held c)
+
+  pub reached-held : {s : Tables} → Reached z s → Held z s
+  reached-held Reached.started = fresh-held
+  reached-held (Reached.called {s = s′} r c) = call-held s′ (reached-kept z lim r) (reached-held r) c

@@ -92,5 +92,6 @@ module _ (z : Sizes) (s : Tables) (t : Task) (r : Tasked z (s .chunks) (s .entri
     where
       m : ℕ
       m = t .stage
+
       P : (Sizes → Tables → Task → Decision) → Type 0
       P f = Publishes (f z s t)
