@@ -36,18 +36,18 @@ use Rattle.handles.proofs.Passing.{Passed, decides-pass}
 use Rattle.handles.proofs.Owning.{put-tasks}
 
 module _ (z : Sizes) (s : Tables) where
-  -- ---- the rebalance leaves the tasks
+  -- ---- the rebalance leaves the tasks and the handles' records
   abbrev pub SameTasks : Tables → Type 0
-  SameTasks x = x .tasks ≡ s .tasks
+  SameTasks x = (x .tasks ≡ s .tasks) × (x .values ≡ s .values) × (x .marks ≡ s .marks)
 
-  fill-tasks : (x : Tables) (c : ChunkNo) (l : List Entry) → fill z x c 0 l .tasks ≡ x .tasks
-  fill-tasks x c l = ap (λ (y : Tables). y .tasks) (fill-is z c x 0 l)
+  fill-same : (x : Tables) (c : ChunkNo) (l : List Entry) → SameTasks x → SameTasks (fill z x c 0 l)
+  fill-same x c l e = rw (fill-is z c x 0 l) e
 
   copy-tasks : SameTasks (copies z s .tables)
   copy-tasks =
       picked (λ (o : Outcome). SameTasks (o .tables)) (leb (length l) (z .entries / 2))
-      (λ _. fill-tasks (withDirectory s (at z s toSwap a noChunk)) a l)
-      (λ _. fill-tasks (makes z (withDirectory s (at z s toSwap a b)) a (chunk s old .min) (take half l)) b (drop half l) ∙ fill-tasks (withDirectory s (at z s toSwap a b)) a (take half l))
+      (λ _. fill-same (withDirectory s (at z s toSwap a noChunk)) a l (refl, refl, refl))
+      (λ _. fill-same (makes z (withDirectory s (at z s toSwap a b)) a (chunk s old .min) (take half l)) b (drop half l) (fill-same (withDirectory s (at z s toSwap a b)) a (take half l) (refl, refl, refl)))
     where
       old : ChunkNo
       old = s .directory .old
@@ -75,10 +75,10 @@ module _ (z : Sizes) (s : Tables) where
       two = putChunk one (s .directory .new) (liveBefore (chunk s (s .directory .new)) (pick (ltb (s .directory .second .0) (z .chunks)) (s .directory .second) (chunk s (s .directory .old) .next)))
 
       first : SameTasks one
-      first = picked SameTasks (eqb (s .directory .first .0) (s .directory .old .0)) (λ _. refl) (λ _. refl)
+      first = picked SameTasks (eqb (s .directory .first .0) (s .directory .old .0)) (λ _. (refl, refl, refl)) (λ _. (refl, refl, refl))
 
   release-tasks : SameTasks (releases z s .tables)
-  release-tasks = picked (λ (o : Outcome). SameTasks (o .tables)) (heldChunk (s .tasks) (s .directory .old)) (λ _. refl) (λ _. ap (λ (y : Tables). y .tasks) (clears-is z (s .directory .old) s (z .entries) (withDirectory s to)))
+  release-tasks = picked (λ (o : Outcome). SameTasks (o .tables)) (heldChunk (s .tasks) (s .directory .old)) (λ _. (refl, refl, refl)) (λ _. rw (clears-is z (s .directory .old) s (z .entries) (withDirectory s to)) (refl, refl, refl))
     where
       to : Directory
       to = record { first = s .directory .first; stage = idle; old = noChunk; new = noChunk; second = noChunk }
@@ -86,16 +86,16 @@ module _ (z : Sizes) (s : Tables) where
   pub rebalance-tasks : SameTasks (does z s rebalance .tables)
   unfolding does rebalanceDoes
   rebalance-tasks =
-      picked Q (eqb (s .directory .stage) toDrain) (λ _. picked (λ (o : Outcome). SameTasks (o .tables)) (publishedOn (s .tasks) (s .directory .old)) (λ _. refl) (λ _. refl))
+      picked Q (eqb (s .directory .stage) toDrain) (λ _. picked (λ (o : Outcome). SameTasks (o .tables)) (publishedOn (s .tasks) (s .directory .old)) (λ _. (refl, refl, refl)) (λ _. (refl, refl, refl)))
       (λ _. picked Q (eqb (s .directory .stage) toCopy) (λ _. copy-tasks)
       (λ _. picked Q (eqb (s .directory .stage) toSwap) (λ _. swap-tasks)
-      (λ _. picked Q (eqb (s .directory .stage) toRelease) (λ _. release-tasks) (λ _. refl))))
+      (λ _. picked Q (eqb (s .directory .stage) toRelease) (λ _. release-tasks) (λ _. (refl, refl, refl)))))
     where
       Q : (Sizes → Tables → Outcome) → Type 0
       Q f = SameTasks (f z s .tables)
 
   pub begin-tasks : (k : ℕ) → SameTasks (begins z s k .tables)
-  begin-tasks k = picked (λ (o : Outcome). SameTasks (o .tables)) (eqb (s .directory .stage) idle) (λ _. picked (λ (o : Outcome). SameTasks (o .tables)) (ltb (unusedCount (s .chunks)) 2) (λ _. refl) (λ _. refl)) (λ _. refl)
+  begin-tasks k = picked (λ (o : Outcome). SameTasks (o .tables)) (eqb (s .directory .stage) idle) (λ _. picked (λ (o : Outcome). SameTasks (o .tables)) (ltb (unusedCount (s .chunks)) 2) (λ _. (refl, refl, refl)) (λ _. (refl, refl, refl))) (λ _. (refl, refl, refl))
 
 -- ---- every call
 module _ (z : Sizes) (lim : Limited z) (s : Tables) (kept : Kept z s) where
@@ -139,8 +139,8 @@ module _ (z : Sizes) (lim : Limited z) (s : Tables) (kept : Kept z s) where
   unfolding does
   does-turns (start n op k a f) = start-turns n op k a f
   does-turns (step n) = step-turns n
-  does-turns (begin k) = same-turns (begins z s k .tables) (begin-tasks z s k)
-  does-turns rebalance = same-turns (does z s rebalance .tables) (rebalance-tasks z s)
+  does-turns (begin k) = same-turns (begins z s k .tables) (begin-tasks z s k .0)
+  does-turns rebalance = same-turns (does z s rebalance .tables) (rebalance-tasks z s .0)
 
   pub none-hands-out : (n h : ℕ) → h < z .handles → HoldsHandle s n h → (c : Call) (m : ℕ) → HandsOut z s c m h → ⊥
   none-hands-out n h b holds c m out = go (does-turns c m)

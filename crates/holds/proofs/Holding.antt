@@ -222,7 +222,7 @@ module _ (z : Sizes) (lim : Limited z) (s : Tables) (kept : Kept z s) (held : He
       early le = omega arith
 
   swap-held : s .directory .stage ≡ toSwap → Held z (swapsIn z s .tables)
-  swap-held stage = left (swapsIn z s .tables) (swap-tasks z s) (λ t p _ n _. record { numbered = p .numbered; isLive = last (t .chunk) (p .isLive) (p .drains drained); drains = λ _. p .drains drained })
+  swap-held stage = left (swapsIn z s .tables) (swap-tasks z s .0) (λ t p _ n _. record { numbered = p .numbered; isLive = last (t .chunk) (p .isLive) (p .drains drained); drains = λ _. p .drains drained })
     where
       drained : toCopy ≤ s .directory .stage
       drained = omega arith
