@@ -1,3 +1,4 @@
 pub mod Publishing
 pub mod Holding
 pub mod Marking
+pub mod Marks

@@ -94,7 +94,7 @@ module _ (z : Sizes) (lim : Limited z) (s : Tables) (kept : Kept z s) (marked : 
   takes-marks e =
       picked Marks (ltb (lowestFree z s .0) (z .handles))
       (λ i. record {
-        old = λ ts x y b. getD-set-other (s .marks) (lowestFree z s .0) (t .old .0) 0 0 (apart i n .0) ∙ marked .old-deleted n (rw e (omega arith)) (rw e (omega arith)) b;
+        old = λ ts x y b. getD-set-other (s .marks) (lowestFree z s .0) (t .old .0) 0 0 (apart i n .0) ∙ old-on 8 e (omega arith) (omega arith) (Stages.goesTo t 9 (t .chunk) (t .entry) (t .old) (lowestFree z s) 0 0) refl x y b;
         new = λ ts b w. (getD-set-same (s .marks) (lowestFree z s .0) 0 0 (rw (kept .marks-sized) b), λ le. absurd (nine le));
         touches = apart i;
       })
@@ -102,6 +102,7 @@ module _ (z : Sizes) (lim : Limited z) (s : Tables) (kept : Kept z s) (marked : 
     where
       nine : 10 ≤ 9 → ⊥
       nine le = omega arith
+
       apart : ltb (lowestFree z s .0) (z .handles) ≡ true → (m : ℕ) → (task s m .old .0 ≢ lowestFree z s .0) × (task s m .new .0 ≢ lowestFree z s .0)
       apart i = free-unheld z (lim .handles) s (kept .tables .entries-sized) (ltb-true _ _ i)
 
@@ -127,3 +128,35 @@ module _ (z : Sizes) (lim : Limited z) (s : Tables) (kept : Kept z s) (marked : 
     where
       t′ : Task
       t′ = Stages.goesTo t (t .stage + 1) (t .chunk) (t .entry) (t .old) (t .new) 1 (pick (eqb (t .stage) 20) 0 1)
+
+  -- ---- every stage
+  pub decides-marks : Marks (Stages.decide z s t)
+  unfolding Stages.stageDoes
+  decides-marks =
+      picked P (eqb m 1 or eqb m 16) (λ e. locates-marks (⊎-map (eqb-true m 1) (eqb-true m 16) (or-cases _ _ e)))
+      (λ _. picked P (eqb m 2) (λ e. picked Marks (ltb (find z s (t .chunk) (t .key) .0) (z .entries)) (λ _. gone refl refl tt) (λ _. picked Marks (inserts (t .operation)) (λ _. keeps-on 2 6 (eqb-true m 2 e) (omega arith) (omega arith) (omega arith)) (λ _. gone refl refl tt)))
+      (λ _. picked P (eqb m 3) (λ e. picked Marks (ltb (entry z s (t .chunk) (t .entry) .handle .0) (z .handles)) (λ _. record { old = λ ts x. absurd (x refl); new = λ ts b. absurd (out b); touches = tt }) (λ _. picked Marks (inserts (t .operation)) (λ _. keeps-on 3 8 (eqb-true m 3 e) (omega arith) (omega arith) (omega arith)) (λ _. gone refl refl tt)))
+      (λ _. picked P (eqb m 4) (λ e. picked Marks (eqb (mark s (t .old)) 0) (λ _. picked Marks (eqb (t .operation) get) (λ _. gone refl refl tt) (λ _. picked Marks (eqb (t .operation) putIfAbsent) (λ _. gone refl refl tt) (λ _. record { old = λ ts _ y. absurd (y refl); new = λ ts. none-new (Stages.keeps t 5) (eqb-true _ _ (holds-at 4 (eqb-true m 4 e) (omega arith) .new)); touches = tt }))) (λ d. picked Marks (eqb (t .operation) get) (λ _. gone refl refl tt) (λ _. keeps-deleted 4 (pick (inserts (t .operation)) 8 13) (eqb-true m 4 e) (omega arith) refl d)))
+      (λ _. picked P (eqb m 5) (λ e. applies-marks (eqb-true m 5 e))
+      (λ _. picked P (eqb m 6) (λ _. picked Marks (eqb (chunk s (t .chunk) .frozen) 0) (λ _. picked Marks (ltb (chunk s (t .chunk) .used) (z .entries)) (λ _. gone refl refl tt) (λ _. gone refl refl tt)) (λ _. gone refl refl tt))
+      (λ _. picked P (eqb m 7) (λ e. picked Marks (eqb (chunk s (t .chunk) .frozen) 0) (λ _. picked Marks (ltb (find z s (t .chunk) (t .key) .0) (z .entries)) (λ _. gone refl refl tt) (λ _. gone (eqb-true _ _ (holds-at 7 (eqb-true m 7 e) (omega arith) .old)) (eqb-true _ _ (holds-at 7 (eqb-true m 7 e) (omega arith) .new)) tt)) (λ _. gone refl refl tt))
+      (λ _. picked P (eqb m 8) (λ e. takes-marks (eqb-true m 8 e))
+      (λ _. picked P (eqb m 9) (λ e. writes-marks (eqb-true m 9 e))
+      (λ _. picked P (eqb m 10 or eqb m 13 or eqb m 19) (λ e. ⊎-elim (λ o. publishes-marks 10 (eqb-true m 10 o) (omega arith) (omega arith) (omega arith) (omega arith) refl) (λ o. ⊎-elim (λ v. publishes-marks 13 (eqb-true m 13 v) (omega arith) (omega arith) (omega arith) (omega arith) refl) (λ v. publishes-marks 19 (eqb-true m 19 v) (omega arith) (omega arith) (omega arith) (omega arith) refl) (or-cases _ _ o)) (or-cases _ _ e))
+      (λ _. picked P (eqb m 11) (λ e. swaps-marks 11 (t .new) (eqb-true m 11 e) (omega arith) (omega arith) (omega arith) (omega arith) refl)
+      (λ _. picked P (eqb m 14 or eqb m 20) (λ e. ⊎-elim (λ o. swaps-marks 14 noHandle (eqb-true m 14 o) (omega arith) (omega arith) (omega arith) (omega arith) refl) (λ o. swaps-marks 20 noHandle (eqb-true m 20 o) (omega arith) (omega arith) (omega arith) (omega arith) refl) (or-cases _ _ e))
+      (λ _. picked P (eqb m 12) (λ _. picked Marks (eqb (t .swapped) 0) (λ _. gone refl refl tt) (λ _. gone refl refl tt))
+      (λ _. picked P (eqb m 15) (λ _. picked Marks (eqb (t .swapped) 0) (λ _. gone refl refl tt) (λ _. gone refl refl tt))
+      (λ _. picked P (eqb m 17) (λ e. picked Marks (ltb (find z s (t .chunk) (t .key) .0) (z .entries)) (λ _. record { old = λ ts. old-on 17 (eqb-true m 17 e) (omega arith) (omega arith) (Stages.goesTo t 18 (t .chunk) (find z s (t .chunk) (t .key)) (t .old) noHandle 0 0) refl; new = λ ts b. absurd (out b); touches = tt }) (λ _. gone refl refl tt))
+      (λ _. picked P (eqb m 18) (λ e. picked Marks (eqb (entry z s (t .chunk) (t .entry) .handle .0) (t .old .0)) (λ _. keeps-on 18 19 (eqb-true m 18 e) (omega arith) (omega arith) (omega arith)) (λ _. gone refl refl tt))
+      (λ _. picked P (eqb m 21) (λ _. gone refl refl tt)
+      (λ _. picked P (eqb m 22) (λ e. let H = holds-at 22 (eqb-true m 22 e) (omega arith) in picked Marks (leb (t .argument) (t .key)) (λ _. gone refl refl tt) (λ _. picked Marks (ltb (firstPresent z s (locate z s (t .key)) (t .key) (t .argument) .0) (z .entries)) (λ _. gone (eqb-true _ _ (H .old)) (eqb-true _ _ (H .new)) tt) (λ _. picked Marks (ltb (chunk s (locate z s (t .key)) .next .0) (z .chunks)) (λ _. gone (eqb-true _ _ (H .old)) (eqb-true _ _ (H .new)) tt) (λ _. gone refl refl tt)))) (λ _. record { old = λ ts. marked .old-deleted n; new = λ ts. marked .new-written n; touches = tt }))))))))))))))))))
+    where
+      m : ℕ
+      m = t .stage
+
+      P : (Sizes → Tables → Task → Decision) → Type 0
+      P f = Marks (f z s t)
+
+      out : NONE < z .handles → ⊥
+      out b = omega (arith, lim .handles)
