@@ -39,7 +39,7 @@ module _ (z : Sizes) (lim : Limited z) (s : Tables) (kept : Kept z s) (copying :
   q : Rebalancing z (s .directory) (s .chunks)
   q = h .rebalancing
 
-  base : Based z (s .directory .first) (s .chunks) (s .entries)
+  pub base : Based z (s .directory .first) (s .chunks) (s .entries)
   base = based-of z (s .directory) (s .chunks) (s .entries) h
 
   abbrev old : ChunkNo
@@ -61,13 +61,13 @@ module _ (z : Sizes) (lim : Limited z) (s : Tables) (kept : Kept z s) (copying :
   pub small : chunk s old .used ≤ z .entries
   small = h .lists old old-in .row .used
 
-  l-rising : Rising 0 l
+  pub l-rising : Rising 0 l
   l-rising = naming-rising z (s .entries) old (chunk s old .used) small (lim .entries) (z .entries) 0 (chunk s old .head) (listed z (s .chunks) (s .entries) old) links
 
   pub l-short : length l ≤ z .entries
   l-short = le-trans (naming-length z (s .entries) old (chunk s old .used) small (lim .entries) (z .entries) 0 (chunk s old .head) (listed z (s .chunks) (s .entries) old) links) (le-trans (links-length z (s .entries) old (chunk s old .used) 0 (chunk s old .head) (listed z (s .chunks) (s .entries) old) links) small)
 
-  l-handles : Every (λ x. numbers (z .handles) (x .handle .0) ≡ true) l
+  pub l-handles : Every (λ x. numbers (z .handles) (x .handle .0) ≡ true) l
   l-handles = naming-every z (s .entries) old (chunk s old .used) small (lim .entries) (λ x. numbers (z .handles) (x .handle .0) ≡ true) (z .entries) 0 (chunk s old .head) (listed z (s .chunks) (s .entries) old) links (λ x m b. number-in _ _ b)
 
   l-range : Every (λ x. InRange z (s .chunks) old (x .key)) l
@@ -220,7 +220,7 @@ module _ (z : Sizes) (lim : Limited z) (s : Tables) (kept : Kept z s) (copying :
     pub l₂-short : length l₂ ≤ z .entries
     l₂-short = rw length-drop (omega (arith, l-short))
 
-    l₂-rising : Rising 0 l₂
+    pub l₂-rising : Rising 0 l₂
     l₂-rising = rising-from least 0 l₂ (rising-drop 0 half l inner l-rising) (λ x m. omega arith)
 
     abbrev cs₁ : List Chunk
@@ -235,16 +235,16 @@ module _ (z : Sizes) (lim : Limited z) (s : Tables) (kept : Kept z s) (copying :
     abbrev es₂ : List Entry
     es₂ = filled z b 0 l₂ es₁
 
-    h₁ : Every (λ x. numbers (z .handles) (x .handle .0) ≡ true) l₁
+    pub h₁ : Every (λ x. numbers (z .handles) (x .handle .0) ≡ true) l₁
     h₁ = every-take (λ x. numbers (z .handles) (x .handle .0) ≡ true) half l l-handles
 
-    h₂ : Every (λ x. numbers (z .handles) (x .handle .0) ≡ true) l₂
+    pub h₂ : Every (λ x. numbers (z .handles) (x .handle .0) ≡ true) l₂
     h₂ = every-drop (λ x. numbers (z .handles) (x .handle .0) ≡ true) half l l-handles
 
-    r₁ : Rising 0 l₁
+    pub r₁ : Rising 0 l₁
     r₁ = rising-take 0 half l l-rising
 
-    base₁ : Based z (s .directory .first) cs₁ es₁
+    pub base₁ : Based z (s .directory .first) cs₁ es₁
     base₁ = based-made z lim (s .directory .first) (s .chunks) (s .entries) base a (chunk s old .min) l₁ (a-free .0) (a-free .1) l₁-short r₁ h₁
 
     same₁ : (f : ChunkNo) → f ≢ a → chunkAt cs₁ f ≡ chunk s f
@@ -253,7 +253,7 @@ module _ (z : Sizes) (lim : Limited z) (s : Tables) (kept : Kept z s) (copying :
     here₁ : chunkAt cs₁ a ≡ newRow (chunk s old .min) l₁
     here₁ = made-here z lim (s .directory .first) (s .chunks) (s .entries) base a (chunk s old .min) l₁ (a-free .0) (a-free .1) l₁-short r₁ h₁
 
-    b-unused : chunkAt cs₁ b .status ≡ unused
+    pub b-unused : chunkAt cs₁ b .status ≡ unused
     b-unused = rw (same₁ b b-apart) (b-free .1)
 
     base₂ : Based z (s .directory .first) cs₂ es₂

@@ -2,3 +2,4 @@ pub mod Publishing
 pub mod Holding
 pub mod Marking
 pub mod Marks
+pub mod Unlinked

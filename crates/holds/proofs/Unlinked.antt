@@ -1,0 +1,199 @@
+-- Every call keeps unlinked-none.
+use Prim.Native.Nat.{ℕ, zero, suc, _+_, _*_, _/_, _≤_, _<_}
+use mathlib.Core.Path.{_≡_, refl, sym, ap, _∙_, subst}
+use mathlib.Core.Logic.{_⊎_, inl, inr, ⊎-elim, _≢_}
+use mathlib.Core.Bool.{Bool, true, false}
+use mathlib.Core.List.{List, [], _∷_, List·Memᴰ, List·Memᴰ·head, List·Memᴰ·tail, Memᴰ·cast}
+use native.Mathlib.Nat.{le-trans, le-refl, not-suc-le-zero}
+use native.Mathlib.Decide.{ℕ-discrete, decLt}
+use native.Mathlib.Omega.{arith}
+use lib.Dec.{eqb, ltb, leb}
+use lib.ListN.{length, getD, set, take, drop, replicate, length-set}
+use lib.Seq.{getD-set-same, getD-set-other, set-out}
+use borrow.Author.Tests.{leb-false, eqb-true, ltb-true, lt-ltb}
+use Rattle.rules.specs.declared.Sizes.{Sizes}
+use Rattle.rules.specs.declared.Directory.{Directory}
+use Rattle.rules.specs.declared.Task.{Task}
+use Rattle.rules.specs.declared.Chunk.{Chunk}
+use Rattle.rules.specs.declared.Entry.{Entry}
+use Rattle.rules.specs.declared.ChunkNo.{ChunkNo}
+use Rattle.rules.specs.declared.EntryNo.{EntryNo}
+use Rattle.rules.specs.declared.Decision.{Decision}
+use Rattle.rules.specs.declared.Write.{Write}
+use Rattle.rules.specs.declared.Write.the-variants as write
+use Rattle.rules.specs.Words.{pick, _and_, _or_, NONE, chunkNo, entryNo, noChunk, noHandle, noEntry, unused, retired, usesFunction, scan, idle, toDrain, toCopy, toSwap, toRelease}
+use Rattle.rules.specs.Tables.{Tables, idleTask, emptyChunk, emptyEntry, chunkAt, chunk, entryAt, entry, row, task, putTask, putChunk, withTasks, withDirectory, withChunks, withEntries}
+use Rattle.rules.specs.Walks.{locate, linked, listFrom}
+use Rattle.rules.specs.Stages
+use Rattle.rules.specs.Rebalance.{Outcome, unusedCount, unusedFrom, publishedOn, heldChunk, namingFrom, frozenOf, makes, at, clears, begins, drains, copies, swapsIn, releases, rebalanceDoes, liveBefore, withNextChunk, withStatus}
+use Rattle.rules.specs.Calls.{Call, fresh, started, starts, steps, does, calls}
+use Rattle.rules.specs.Calls.Call.{start, step, begin, rebalance}
+use Rattle.laws.proofs.Tests.{picked, by-test}
+use Rattle.views.specs.Copies.{filled, cleared, upFrom, Rising}
+use Rattle.views.proofs.Rows.{entry-put}
+use Rattle.views.proofs.Copies.{fill-is, clears-is, cleared-other, cleared-here}
+use Rattle.facts.specs.Facts.{Limited, listed, Tabled, Waits, Allowed, Kept}
+use Rattle.facts.specs.Reached.{Reached}
+use Rattle.facts.proofs.Applying.{Applied, applied-by}
+use Rattle.facts.proofs.Ends.{decides-fine}
+use Rattle.facts.proofs.Fresh.{getD-all}
+use Rattle.facts.proofs.Writes.{same-chunk}
+use Rattle.facts.proofs.Putting.{Based}
+use Rattle.facts.proofs.Making
+use Rattle.facts.proofs.Making.{newRow}
+use Rattle.facts.proofs.Copying
+use Rattle.rules.specs.Shape.{numbers}
+use Rattle.laws.specs.Counts.{Every}
+use Rattle.facts.proofs.Swapping.{beforeOld}
+use Rattle.facts.proofs.Reaching.{calls-does, reached-kept}
+use Rattle.holds.specs.Unlinked.{UnlinkedNone}
+use Rattle.holds.proofs.Publishing.{NamesLinked, decides-publish}
+
+-- a chunk's list by the rows' nexts
+list-same : (z : Sizes) (es es′ : List Entry) (c : ChunkNo) → ((x : EntryNo) → x .0 < z .entries → entryAt z es′ c x .next ≡ entryAt z es c x .next) → (fuel : ℕ) (e : EntryNo) → listFrom z es′ c fuel e ≡ listFrom z es c fuel e
+unfolding listFrom
+list-same z es es′ c same zero e = refl
+list-same z es es′ c same (suc fuel) e = by-test (ltb (e .0) (z .entries)) (λ t. rw (t, same e (ltb-true _ _ t)) (ap (λ (l : List EntryNo). e ∷ l) (list-same z es es′ c same fuel (entryAt z es c e .next)))) (λ t. rw t)
+
+-- a head stays where what is written has it
+head-put : (cs : List Chunk) (d : ChunkNo) (x : Chunk) (c : ChunkNo) → (c ≡ d → x .head ≡ chunkAt cs c .head) → chunkAt (set cs (d .0) x) c .head ≡ chunkAt cs c .head
+head-put cs d x c f = ⊎-elim (λ (e : c ≡ d). here e) (λ ne. ap (λ (y : Chunk). y .head) (getD-set-other cs (d .0) (c .0) x emptyChunk (λ e. ne (ap chunkNo e)))) (same-chunk c d)
+  where
+    here : c ≡ d → chunkAt (set cs (d .0) x) c .head ≡ chunkAt cs c .head
+    here e = elim (decLt (d .0) (length cs)) [ yes b ↦ rw e (ap (λ (y : Chunk). y .head) (getD-set-same cs (d .0) x emptyChunk b) ∙ f e ∙ ap (λ (c : ChunkNo). chunkAt cs c .head) e) | no out ↦ rw (set-out cs (d .0) x (omega arith)) refl ]
+
+up-from-in : (n m : ℕ) (e : EntryNo) → n ≤ e .0 → e .0 < n + m → List·Memᴰ e (upFrom n m)
+unfolding upFrom
+up-from-in n zero e ge lt = absurd (never ge lt)
+  where
+    never : n ≤ e .0 → e .0 < n + 0 → ⊥
+    never p q = omega arith
+up-from-in n (suc m) e ge lt = elim (ℕ-discrete (e .0) n) [ yes q ↦ List·Memᴰ·head (ap entryNo q) | no ne ↦ List·Memᴰ·tail (up-from-in (n + 1) m e (more ne) (omega arith)) ]
+  where
+    more : e .0 ≢ n → n + 1 ≤ e .0
+    more ne = omega arith
+
+-- a new chunk made of a list has all its naming entries linked
+module _ (z : Sizes) (lim : Limited z) (first : ChunkNo) (cs : List Chunk) (es : List Entry) (h : Based z first cs es)
+    (c : ChunkNo) (min : ℕ) (l : List Entry) (b : c .0 < z .chunks) (empty : chunkAt cs c .status ≡ unused) (short : length l ≤ z .entries)
+    (rising : Rising 0 l) (handles : Every (λ x. numbers (z .handles) (x .handle .0) ≡ true) l) where
+  made-unlinked : UnlinkedNone z cs es → UnlinkedNone z (set cs (c .0) (newRow min l)) (filled z c 0 l es)
+  made-unlinked un f e bf be i = ⊎-elim (λ (p : f ≡ c). here p) (λ ne. other ne) (same-chunk f c)
+    where
+      other : f ≢ c → List·Memᴰ e (listed z (set cs (c .0) (newRow min l)) (filled z c 0 l es) f)
+      other ne = rw (Making.made-other z lim first cs es h c min l b empty short rising handles f ne, list-same z es (filled z c 0 l es) f (λ x bx. ap (λ (y : Entry). y .next) (rows x bx)) (z .entries) (chunkAt cs f .head)) (un f e bf be (rw (rows e be) at i))
+        where
+          rows : (x : EntryNo) → x .0 < z .entries → entryAt z (filled z c 0 l es) f x ≡ entryAt z es f x
+          rows x bx = Making.rows z lim first cs es h c min l b empty short rising handles f x ne bx
+      inner : entryAt z (filled z c 0 l es) c e .handle .0 < z .handles → e .0 < length l
+      inner j = elim (decLt (e .0) (length l)) [ yes lt ↦ lt | no ge ↦ absurd (none (Making.slot z lim first cs es h c min l b empty short rising handles e be .empty (past ge)) j) ]
+        where
+          past : (e .0 < length l → ⊥) → length l ≤ e .0
+          past ge = omega arith
+          none : entryAt z (filled z c 0 l es) c e ≡ emptyEntry → entryAt z (filled z c 0 l es) c e .handle .0 < z .handles → ⊥
+          none q j = omega (arith, lim .handles, j, ap (λ (y : Entry). y .handle .0) q)
+      here : f ≡ c → List·Memᴰ e (listed z (set cs (c .0) (newRow min l)) (filled z c 0 l es) f)
+      here p = rw (p, Making.seen z lim first cs es h c min l b empty short rising handles) (up-from-in 0 (length l) e (omega arith) (omega (arith, inner (rw p at i))))
+
+module _ (z : Sizes) (lim : Limited z) (s : Tables) (kept : Kept z s) (un : UnlinkedNone z (s .chunks) (s .entries)) where
+  abbrev UnlinkedIn : Tables → Type 0
+  UnlinkedIn x = UnlinkedNone z (x .chunks) (x .entries)
+
+  out : NONE < z .handles → ⊥
+  out b = omega (arith, lim .handles)
+
+  len : length (s .entries) ≡ z .chunks * z .entries
+  len = kept .tables .entries-sized
+
+  -- ---- a step: what names a handle afterwards was linked
+  module _ (ts : List Task) (c : ChunkNo) (e : EntryNo) (b : c .0 < z .chunks) (be : e .0 < z .entries) where
+    abbrev Was : Entry → Type 0
+    Was y = y .handle .0 < z .handles → List·Memᴰ e (linked z s c)
+
+    as-it-was : Was (entry z s c e)
+    as-it-was = un c e b be
+
+    names-then : (w : Write) → Allowed z (s .chunks) (s .entries) w → NamesLinked z s w → Was (entryAt z (Stages.apply z (withTasks s ts) w .entries) c e)
+    names-then write.Nothing a m = as-it-was
+    names-then (write.Slot d k) a m = entry-put z (s .entries) d (entryNo (chunk s d .used)) (record { key = k; handle = noHandle; next = noEntry }) c e Was len (a .0) (a .2) be (λ _ _ i. absurd (out i)) (λ _. as-it-was)
+    names-then (write.Link d f before) a m =
+        picked (λ (x : Tables). Was (entryAt z (x .entries) c e)) (ltb (before .0) (z .entries))
+        (λ i. entry-put z (set (s .entries) (row z d f) (Stages.withNext (entry z s d f) (entry z s d before .next))) d before (Stages.withNext (entry z s d before) f) c e Was (length-set (s .entries) (row z d f) _ ∙ len) (w .numbered) (ltb-true _ _ i) be (λ p q. at-row before p q) (λ _. first (entry z s d before .next)))
+        (λ _. first (chunk s d .head))
+      where
+        w : Waits z (s .chunks) (s .entries) d f before (a .0)
+        w = a .1
+        f-in : f .0 < z .entries
+        f-in = le-trans (w .used) (kept .tables .lists d (w .numbered) .row .used)
+        at-row : (g : EntryNo) → c ≡ d → e ≡ g → Was (entry z s d g)
+        at-row g p q = rw (← p, ← q) as-it-was
+        first : (x : EntryNo) → Was (entryAt z (set (s .entries) (row z d f) (Stages.withNext (entry z s d f) x)) c e)
+        first x = entry-put z (s .entries) d f (Stages.withNext (entry z s d f) x) c e Was len (w .numbered) f-in be (λ p q. at-row f p q) (λ _. as-it-was)
+    names-then (write.Fresh h) a m = as-it-was
+    names-then (write.Store h v) a m = as-it-was
+    names-then (write.Delete h) a m = as-it-was
+    names-then (write.Name d f h) a m = entry-put z (s .entries) d f (Stages.withHandle (entry z s d f) h) c e Was len (a .0) (le-trans (a .1) (kept .tables .lists d (a .0) .row .used)) be (λ p q _. rw p (Memᴰ·cast q m)) (λ _. as-it-was)
+
+  step-unlinked : (n : ℕ) → UnlinkedIn (steps z s n .tables)
+  step-unlinked n =
+      picked (λ (o : Outcome). UnlinkedIn (o .tables)) (leb (z .tasks) n) (λ _. un)
+      (λ _. picked (λ (o : Outcome). UnlinkedIn (o .tables)) (eqb (task s n .stage) 0) (λ _. un)
+      (λ _ c e b be i. a .written .members c e b (names-then (set (s .tasks) n (x .task)) c e b be (x .write) (decides-fine z lim s (kept .tables) (task s n) (kept .tasks n) .allowed) (decides-publish z s (task s n) (kept .tasks n) .names) i)))
+    where
+      x : Decision
+      x = Stages.decide z s (task s n)
+      a : Applied z (putTask s n (x .task)) (Stages.apply z (putTask s n (x .task)) (x .write))
+      a = applied-by z lim (putTask s n (x .task)) (kept .tables) (x .write) (decides-fine z lim s (kept .tables) (task s n) (kept .tasks n) .allowed)
+
+  start-unlinked : (n op k a f : ℕ) → UnlinkedIn (starts z s n op k a f .tables)
+  start-unlinked n op k a f =
+      picked O (leb (z .tasks) n) (λ _. un)
+      (λ b. picked O (eqb (task s n .stage) 0)
+      (λ _. picked O (ltb op 1 or ltb 7 op or (usesFunction op and (ltb f 1 or ltb 3 f))) (λ _. un) (λ _. picked O (eqb op scan and ltb a k) (λ _. un) (λ _. un)))
+      (λ _. un))
+    where
+      O : Outcome → Type 0
+      O o = UnlinkedIn (o .tables)
+
+  -- ---- the rebalance
+  -- the entries are as they were, and every chunk's head
+  heads : (cs : List Chunk) → ((c : ChunkNo) → chunkAt cs c .head ≡ chunk s c .head) → UnlinkedNone z cs (s .entries)
+  heads cs same c e b be i = rw (same c) (un c e b be i)
+
+  begin-unlinked : (k : ℕ) → UnlinkedIn (begins z s k .tables)
+  begin-unlinked k =
+      picked (λ (o : Outcome). UnlinkedIn (o .tables)) (eqb (s .directory .stage) idle)
+      (λ _. picked (λ (o : Outcome). UnlinkedIn (o .tables)) (ltb (unusedCount (s .chunks)) 2) (λ _. un)
+      (λ _. heads (set (s .chunks) (locate z s k .0) (frozenOf (chunk s (locate z s k)))) (λ c. head-put (s .chunks) (locate z s k) (frozenOf (chunk s (locate z s k))) c (λ e. ap (λ (c : ChunkNo). chunk s c .head) (sym e)))))
+      (λ _. un)
+
+  swap-unlinked : UnlinkedIn (swapsIn z s .tables)
+  swap-unlinked c e b be i = rw entries-are (rw (last c) (un c e b be (rw entries-are at i)))
+    where
+      old : ChunkNo
+      old = s .directory .old
+      one : Tables
+      one = pick (eqb (s .directory .first .0) (old .0)) s (putChunk s (beforeOld z s) (withNextChunk (chunk s (beforeOld z s)) (s .directory .new)))
+      row-a : Chunk
+      row-a = liveBefore (chunk s (s .directory .new)) (pick (ltb (s .directory .second .0) (z .chunks)) (s .directory .second) (chunk s old .next))
+      two : Tables
+      two = putChunk one (s .directory .new) row-a
+      row-b : Chunk
+      row-b = liveBefore (chunk s (s .directory .second)) (chunk s old .next)
+      three : Tables
+      three = pick (ltb (s .directory .second .0) (z .chunks)) (putChunk two (s .directory .second) row-b) two
+      at-c : {d : ChunkNo} (x : Tables) → ((f : ChunkNo) → chunkAt (x .chunks) f .head ≡ chunk s f .head) → (f : ChunkNo) → f ≡ d → chunk s d .head ≡ chunkAt (x .chunks) f .head
+      at-c x same f q = ap (λ (c : ChunkNo). chunk s c .head) (sym q) ∙ sym (same f)
+      at-one : (f : ChunkNo) → chunkAt (one .chunks) f .head ≡ chunk s f .head
+      at-one f = picked (λ (x : Tables). chunkAt (x .chunks) f .head ≡ chunk s f .head) (eqb (s .directory .first .0) (old .0)) (λ _. refl) (λ _. head-put (s .chunks) (beforeOld z s) (withNextChunk (chunk s (beforeOld z s)) (s .directory .new)) f (λ q. ap (λ (c : ChunkNo). chunk s c .head) (sym q)))
+      at-two : (f : ChunkNo) → chunkAt (two .chunks) f .head ≡ chunk s f .head
+      at-two f = head-put (one .chunks) (s .directory .new) row-a f (λ q. at-c one at-one f q) ∙ at-one f
+      at-three : (f : ChunkNo) → chunkAt (three .chunks) f .head ≡ chunk s f .head
+      at-three f = picked (λ (x : Tables). chunkAt (x .chunks) f .head ≡ chunk s f .head) (ltb (s .directory .second .0) (z .chunks)) (λ _. head-put (two .chunks) (s .directory .second) row-b f (λ q. at-c two at-two f q) ∙ at-two f) (λ _. at-two f)
+      last : (f : ChunkNo) → chunkAt (swapsIn z s .tables .chunks) f .head ≡ chunk s f .head
+      last f = head-put (three .chunks) old (withStatus (chunk s old) retired) f (λ q. at-c three at-three f q) ∙ at-three f
+      entries-are : swapsIn z s .tables .entries ≡ s .entries
+      entries-are = picked (λ (x : Tables). x .entries ≡ s .entries) (ltb (s .directory .second .0) (z .chunks)) {x = putChunk two (s .directory .second) row-b} {y = two} (λ _. first) (λ _. first)
+        where
+          first : one .entries ≡ s .entries
+          first = picked (λ (x : Tables). x .entries ≡ s .entries) (eqb (s .directory .first .0) (old .0)) (λ _. refl) (λ _. refl)
