@@ -85,13 +85,16 @@ module _ (z : Sizes) (lim : Limited z) (first : ChunkNo) (cs : List Chunk) (es :
         where
           rows : (x : EntryNo) → x .0 < z .entries → entryAt z (filled z c 0 l es) f x ≡ entryAt z es f x
           rows x bx = Making.rows z lim first cs es h c min l b empty short rising handles f x ne bx
+
       inner : entryAt z (filled z c 0 l es) c e .handle .0 < z .handles → e .0 < length l
       inner j = elim (decLt (e .0) (length l)) [ yes lt ↦ lt | no ge ↦ absurd (none (Making.slot z lim first cs es h c min l b empty short rising handles e be .empty (past ge)) j) ]
         where
           past : (e .0 < length l → ⊥) → length l ≤ e .0
           past ge = omega arith
+
           none : entryAt z (filled z c 0 l es) c e ≡ emptyEntry → entryAt z (filled z c 0 l es) c e .handle .0 < z .handles → ⊥
           none q j = omega (arith, lim .handles, j, ap (λ (y : Entry). y .handle .0) q)
+
       here : f ≡ c → List·Memᴰ e (listed z (set cs (c .0) (newRow min l)) (filled z c 0 l es) f)
       here p = rw (p, Making.seen z lim first cs es h c min l b empty short rising handles) (up-from-in 0 (length l) e (omega arith) (omega (arith, inner (rw p at i))))
 
@@ -123,10 +126,13 @@ module _ (z : Sizes) (lim : Limited z) (s : Tables) (kept : Kept z s) (un : Unli
       where
         w : Waits z (s .chunks) (s .entries) d f before (a .0)
         w = a .1
+
         f-in : f .0 < z .entries
         f-in = le-trans (w .used) (kept .tables .lists d (w .numbered) .row .used)
+
         at-row : (g : EntryNo) → c ≡ d → e ≡ g → Was (entry z s d g)
         at-row g p q = rw (← p, ← q) as-it-was
+
         first : (x : EntryNo) → Was (entryAt z (set (s .entries) (row z d f) (Stages.withNext (entry z s d f) x)) c e)
         first x = entry-put z (s .entries) d f (Stages.withNext (entry z s d f) x) c e Was len (w .numbered) f-in be (λ p q. at-row f p q) (λ _. as-it-was)
     names-then (write.Fresh h) a m = as-it-was
@@ -142,6 +148,7 @@ module _ (z : Sizes) (lim : Limited z) (s : Tables) (kept : Kept z s) (un : Unli
     where
       x : Decision
       x = Stages.decide z s (task s n)
+
       a : Applied z (putTask s n (x .task)) (Stages.apply z (putTask s n (x .task)) (x .write))
       a = applied-by z lim (putTask s n (x .task)) (kept .tables) (x .write) (decides-fine z lim s (kept .tables) (task s n) (kept .tasks n) .allowed)
 
@@ -172,28 +179,133 @@ module _ (z : Sizes) (lim : Limited z) (s : Tables) (kept : Kept z s) (un : Unli
     where
       old : ChunkNo
       old = s .directory .old
+
       one : Tables
       one = pick (eqb (s .directory .first .0) (old .0)) s (putChunk s (beforeOld z s) (withNextChunk (chunk s (beforeOld z s)) (s .directory .new)))
+
       row-a : Chunk
       row-a = liveBefore (chunk s (s .directory .new)) (pick (ltb (s .directory .second .0) (z .chunks)) (s .directory .second) (chunk s old .next))
+
       two : Tables
       two = putChunk one (s .directory .new) row-a
+
       row-b : Chunk
       row-b = liveBefore (chunk s (s .directory .second)) (chunk s old .next)
+
       three : Tables
       three = pick (ltb (s .directory .second .0) (z .chunks)) (putChunk two (s .directory .second) row-b) two
+
       at-c : {d : ChunkNo} (x : Tables) → ((f : ChunkNo) → chunkAt (x .chunks) f .head ≡ chunk s f .head) → (f : ChunkNo) → f ≡ d → chunk s d .head ≡ chunkAt (x .chunks) f .head
       at-c x same f q = ap (λ (c : ChunkNo). chunk s c .head) (sym q) ∙ sym (same f)
+
       at-one : (f : ChunkNo) → chunkAt (one .chunks) f .head ≡ chunk s f .head
       at-one f = picked (λ (x : Tables). chunkAt (x .chunks) f .head ≡ chunk s f .head) (eqb (s .directory .first .0) (old .0)) (λ _. refl) (λ _. head-put (s .chunks) (beforeOld z s) (withNextChunk (chunk s (beforeOld z s)) (s .directory .new)) f (λ q. ap (λ (c : ChunkNo). chunk s c .head) (sym q)))
+
       at-two : (f : ChunkNo) → chunkAt (two .chunks) f .head ≡ chunk s f .head
       at-two f = head-put (one .chunks) (s .directory .new) row-a f (λ q. at-c one at-one f q) ∙ at-one f
+
       at-three : (f : ChunkNo) → chunkAt (three .chunks) f .head ≡ chunk s f .head
       at-three f = picked (λ (x : Tables). chunkAt (x .chunks) f .head ≡ chunk s f .head) (ltb (s .directory .second .0) (z .chunks)) (λ _. head-put (two .chunks) (s .directory .second) row-b f (λ q. at-c two at-two f q) ∙ at-two f) (λ _. at-two f)
+
       last : (f : ChunkNo) → chunkAt (swapsIn z s .tables .chunks) f .head ≡ chunk s f .head
       last f = head-put (three .chunks) old (withStatus (chunk s old) retired) f (λ q. at-c three at-three f q) ∙ at-three f
+
       entries-are : swapsIn z s .tables .entries ≡ s .entries
       entries-are = picked (λ (x : Tables). x .entries ≡ s .entries) (ltb (s .directory .second .0) (z .chunks)) {x = putChunk two (s .directory .second) row-b} {y = two} (λ _. first) (λ _. first)
         where
           first : one .entries ≡ s .entries
           first = picked (λ (x : Tables). x .entries ≡ s .entries) (eqb (s .directory .first .0) (old .0)) (λ _. refl) (λ _. refl)
+
+  copy-unlinked : s .directory .stage ≡ toCopy → UnlinkedIn (copies z s .tables)
+  copy-unlinked stage =
+      picked (λ (o : Outcome). UnlinkedIn (o .tables)) (leb (length l) (z .entries / 2))
+      (λ _. rw (fill-is z a (withDirectory s (at z s toSwap a noChunk)) 0 l) (made-unlinked z lim (s .directory .first) (s .chunks) (s .entries) (Copying.base z lim s kept stage) a (chunk s old .min) l (Copying.a-free z lim s kept stage .0) (Copying.a-free z lim s kept stage .1) (Copying.l-short z lim s kept stage) (Copying.l-rising z lim s kept stage) (Copying.l-handles z lim s kept stage) un))
+      (λ t. two (leb-false _ _ t))
+    where
+      old : ChunkNo
+      old = s .directory .old
+
+      l : List Entry
+      l = namingFrom z (s .entries) old (z .entries) (chunk s old .head)
+
+      half : ℕ
+      half = (length l + 1) / 2
+
+      l₁ : List Entry
+      l₁ = take half l
+
+      l₂ : List Entry
+      l₂ = drop half l
+
+      a : ChunkNo
+      a = unusedFrom (s .chunks) 0
+
+      b : ChunkNo
+      b = unusedFrom (drop (a .0 + 1) (s .chunks)) (a .0 + 1)
+
+      es₁ : List Entry
+      es₁ = filled z a 0 l₁ (s .entries)
+
+      cs₁ : List Chunk
+      cs₁ = set (s .chunks) (a .0) (newRow (chunk s old .min) l₁)
+
+      two : z .entries / 2 < length l → UnlinkedIn (makes z (makes z (withDirectory s (at z s toSwap a b)) a (chunk s old .min) l₁) b (getD l half emptyEntry .key) l₂)
+      two over =
+          rw (fill-is z a (withDirectory s (at z s toSwap a b)) 0 l₁, fill-is z b (withChunks (withEntries (withDirectory s (at z s toSwap a b)) es₁) cs₁) 0 l₂)
+          (made-unlinked z lim (s .directory .first) cs₁ es₁ (Copying.base₁ z lim s kept stage over) b (getD l half emptyEntry .key) l₂ (Copying.b-free z lim s kept stage .0) (Copying.b-unused z lim s kept stage over) (Copying.l₂-short z lim s kept stage over) (Copying.l₂-rising z lim s kept stage over) (Copying.h₂ z lim s kept stage over)
+          (made-unlinked z lim (s .directory .first) (s .chunks) (s .entries) (Copying.base z lim s kept stage) a (chunk s old .min) l₁ (Copying.a-free z lim s kept stage .0) (Copying.a-free z lim s kept stage .1) (Copying.l₁-short z lim s kept stage over) (Copying.r₁ z lim s kept stage over) (Copying.h₁ z lim s kept stage over) un))
+
+  release-unlinked : s .directory .stage ≡ toRelease → UnlinkedIn (releases z s .tables)
+  release-unlinked stage = picked (λ (o : Outcome). UnlinkedIn (o .tables)) (heldChunk (s .tasks) (s .directory .old)) (λ _. un) (λ _. rw (clears-is z old s (z .entries) (withDirectory s to)) gone)
+    where
+      old : ChunkNo
+      old = s .directory .old
+
+      to : Directory
+      to = record { first = s .directory .first; stage = idle; old = noChunk; new = noChunk; second = noChunk }
+
+      old-in : old .0 < z .chunks
+      old-in = kept .tables .rebalancing .old (omega arith)
+
+      es : List Entry
+      es = cleared z old (z .entries) (s .entries)
+
+      gone : UnlinkedNone z (set (s .chunks) (old .0) emptyChunk) es
+      gone c e b be i = ⊎-elim (λ (p : c ≡ old). absurd (none (rw p at i))) (λ ne. other ne) (same-chunk c old)
+        where
+          none : entryAt z es old e .handle .0 < z .handles → ⊥
+          none j = out (rw (cleared-here z old old-in (z .entries) (s .entries) e (le-refl _) len be) at j)
+
+          rows : c ≢ old → (x : EntryNo) → x .0 < z .entries → entryAt z es c x ≡ entryAt z (s .entries) c x
+          rows ne x bx = cleared-other z old old-in (z .entries) (s .entries) c x (le-refl _) len bx (λ p. absurd (ne p))
+
+          other : c ≢ old → List·Memᴰ e (listed z (set (s .chunks) (old .0) emptyChunk) es c)
+          other ne = rw (head-put (s .chunks) old emptyChunk c (λ p. absurd (ne p)), list-same z (s .entries) es c (λ x bx. ap (λ (y : Entry). y .next) (rows ne x bx)) (z .entries) (chunk s c .head)) (un c e b be (rw (rows ne e be) at i))
+
+  pub does-unlinked : (c : Call) → UnlinkedIn (does z s c .tables)
+  unfolding does rebalanceDoes
+  does-unlinked (start n op k a f) = start-unlinked n op k a f
+  does-unlinked (step n) = step-unlinked n
+  does-unlinked (begin k) = begin-unlinked k
+  does-unlinked rebalance =
+      picked Q (eqb (s .directory .stage) toDrain) (λ _. picked (λ (o : Outcome). UnlinkedIn (o .tables)) (publishedOn (s .tasks) (s .directory .old)) (λ _. un) (λ _. un))
+      (λ _. picked Q (eqb (s .directory .stage) toCopy) (λ e. copy-unlinked (eqb-true _ _ e))
+      (λ _. picked Q (eqb (s .directory .stage) toSwap) (λ _. swap-unlinked)
+      (λ _. picked Q (eqb (s .directory .stage) toRelease) (λ e. release-unlinked (eqb-true _ _ e)) (λ _. un))))
+    where
+      Q : (Sizes → Tables → Outcome) → Type 0
+      Q f = UnlinkedIn (f z s .tables)
+
+module _ (z : Sizes) (lim : Limited z) where
+  fresh-unlinked : UnlinkedNone z (fresh z .chunks) (fresh z .entries)
+  fresh-unlinked c e b be i = absurd (none (rw (getD-all (z .chunks * z .entries) (row z c e) emptyEntry) at i))
+    where
+      none : NONE < z .handles → ⊥
+      none j = omega (arith, lim .handles)
+
+  call-unlinked : (s : Tables) → Kept z s → UnlinkedNone z (s .chunks) (s .entries) → (c : Call) → UnlinkedNone z (calls z s c .tables .chunks) (calls z s c .tables .entries)
+  call-unlinked s k un c = rw (calls-does z lim s k c) (does-unlinked z lim s k un c)
+
+  pub reached-unlinked : {s : Tables} → Reached z s → UnlinkedNone z (s .chunks) (s .entries)
+  reached-unlinked Reached.started = fresh-unlinked
+  reached-unlinked (Reached.called {s = s′} r c) = call-unlinked s′ (reached-kept z lim r) (reached-unlinked r) c
