@@ -21,6 +21,7 @@ use Rattle.rules.specs.Walks.{locate, find, lowestFree, firstPresent}
 use Rattle.rules.specs.Stages
 use Rattle.laws.proofs.Tests.{picked, or-cases}
 use Rattle.facts.specs.Facts.{Limited, Tabled, Holds, holdAt, Tasked}
+use Rattle.facts.proofs.Numbers.{holding}
 use Rattle.handles.specs.Owned.{Row, NamedUnder, Unnamed}
 use Rattle.handles.proofs.Naming.{Passes}
 use Rattle.handles.proofs.Free.{free-unnamed, free-unheld}
@@ -44,7 +45,7 @@ module _ (z : Sizes) (lim : Limited z) (s : Tables) (h : Tabled z (s .directory)
     pub names : NamesRight z t (x .task) (x .write)
 
   holds-at : (m : ℕ) → t .stage ≡ m → m ≢ 0 → Holds z t (holdAt m)
-  holds-at m e ne = rw (← e) (r .holds (λ q. ne (sym e ∙ q)))
+  holds-at = holding z (s .chunks) (s .entries) t r
 
   -- nothing is held; both are held on; the old one is held on; nothing but what was
   dropped : {x : Decision} → x .task .old .0 ≡ NONE → x .task .new .0 ≡ NONE → NamesRight z t (x .task) (x .write) → Passed x

@@ -22,6 +22,7 @@ use Rattle.rules.specs.Walks.{locate, find, lowestFree, firstPresent}
 use Rattle.rules.specs.Stages
 use Rattle.laws.proofs.Tests.{picked, or-cases}
 use Rattle.facts.specs.Facts.{Limited, Tabled, Holds, holdAt, Tasked, Kept}
+use Rattle.facts.proofs.Numbers.{holding}
 use Rattle.handles.proofs.Free.{free-unheld}
 use Rattle.holds.specs.Marked.{OldDeleted, NewWritten, Marked}
 
@@ -45,7 +46,7 @@ module _ (z : Sizes) (lim : Limited z) (s : Tables) (kept : Kept z s) (marked : 
     pub touches : Touches (x .write)
 
   holds-at : (m : ℕ) → t .stage ≡ m → m ≢ 0 → Holds z t (holdAt m)
-  holds-at m e ne = rw (← e) (kept .tasks n .holds (λ q. ne (sym e ∙ q)))
+  holds-at = holding z (s .chunks) (s .entries) t (kept .tasks n)
 
   never : {h : ℕ} → h ≡ NONE → h < z .handles → ⊥
   never e b = omega (arith, lim .handles)

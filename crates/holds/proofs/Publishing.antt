@@ -19,6 +19,7 @@ use Rattle.rules.specs.Walks.{locate, find, linked, lowestFree, firstPresent}
 use Rattle.rules.specs.Stages
 use Rattle.laws.proofs.Tests.{picked, or-cases}
 use Rattle.facts.specs.Facts.{Limited, Tabled, Holds, holdAt, Tasked}
+use Rattle.facts.proofs.Numbers.{holding}
 
 -- a naming write is of a linked entry
 abbrev pub NamesLinked : Sizes → Tables → Write → Type 0
@@ -37,7 +38,7 @@ module _ (z : Sizes) (s : Tables) (t : Task) (r : Tasked z (s .chunks) (s .entri
     pub names : NamesLinked z s (x .write)
 
   holds-at : (m : ℕ) → t .stage ≡ m → m ≢ 0 → Holds z t (holdAt m)
-  holds-at m e ne = rw (← e) (r .holds (λ q. ne (sym e ∙ q)))
+  holds-at = holding z (s .chunks) (s .entries) t r
 
   zero-one : _≡_ {A = ℕ} 0 1 → ⊥
   zero-one q = omega arith
