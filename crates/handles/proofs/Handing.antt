@@ -17,14 +17,14 @@ use Rattle.rules.specs.declared.Decision.{Decision}
 use Rattle.rules.specs.Words.{pick, _and_, _or_, NONE, noChunk, usesFunction, scan, idle, toDrain, toCopy, toSwap, toRelease}
 use Rattle.rules.specs.Tables.{Tables, idleTask, emptyChunk, emptyEntry, chunk, task, putTask, putChunk, withDirectory}
 use Rattle.rules.specs.Stages
-use Rattle.rules.specs.Rebalance.{Outcome, unusedCount, unusedFrom, publishedOn, heldChunk, namingFrom, makes, fill, at, clears, begins, drains, copies, swapsIn, releases, rebalanceDoes, liveBefore, withNextChunk}
+use Rattle.rules.specs.Rebalance.{Outcome, unusedCount, unusedFrom, publishedOn, heldChunk, namingFrom, makes, fill, at, clears, begins, drains, copies, swapsIn, releases, rebalanceDoes}
 use Rattle.rules.specs.Calls.{Call, started, starts, steps, does, calls}
 use Rattle.rules.specs.Calls.Call.{start, step, begin, rebalance}
 use Rattle.laws.proofs.Tests.{picked}
 use Rattle.views.proofs.Copies.{fill-is, clears-is}
 use Rattle.facts.specs.Facts.{Limited, Kept}
 use Rattle.facts.specs.Reached.{Reached}
-use Rattle.facts.proofs.Swapping.{beforeOld}
+use Rattle.facts.proofs.SwapIn.{swap-by}
 use Rattle.facts.proofs.Applying.{Applied, applied-by}
 use Rattle.facts.proofs.Going.{Fine}
 use Rattle.facts.proofs.Ends.{decides-fine}
@@ -65,17 +65,7 @@ module _ (z : Sizes) (s : Tables) where
       b = unusedFrom (drop (a .0 + 1) (s .chunks)) (a .0 + 1)
 
   pub swap-tasks : SameTasks (swapsIn z s .tables)
-  swap-tasks =
-      picked SameTasks (ltb (s .directory .second .0) (z .chunks)) {x = putChunk two (s .directory .second) (liveBefore (chunk s (s .directory .second)) (chunk s (s .directory .old) .next))} {y = two} (λ _. first) (λ _. first)
-    where
-      one : Tables
-      one = pick (eqb (s .directory .first .0) (s .directory .old .0)) s (putChunk s (beforeOld z s) (withNextChunk (chunk s (beforeOld z s)) (s .directory .new)))
-
-      two : Tables
-      two = putChunk one (s .directory .new) (liveBefore (chunk s (s .directory .new)) (pick (ltb (s .directory .second .0) (z .chunks)) (s .directory .second) (chunk s (s .directory .old) .next)))
-
-      first : SameTasks one
-      first = picked SameTasks (eqb (s .directory .first .0) (s .directory .old .0)) (λ _. (refl, refl, refl)) (λ _. (refl, refl, refl))
+  swap-tasks = swap-by z s SameTasks (refl, refl, refl) (λ x e. e) (λ x e. e) (λ x e. e) (λ x e. e) (λ x d e. e)
 
   release-tasks : SameTasks (releases z s .tables)
   release-tasks = picked (λ (o : Outcome). SameTasks (o .tables)) (heldChunk (s .tasks) (s .directory .old)) (λ _. (refl, refl, refl)) (λ _. rw (clears-is z (s .directory .old) s (z .entries) (withDirectory s to)) (refl, refl, refl))

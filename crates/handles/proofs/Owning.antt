@@ -31,10 +31,10 @@ use Rattle.views.proofs.Rows.{entry-put}
 use Rattle.views.proofs.Naming.{naming-every, every-take, every-drop}
 use Rattle.views.proofs.Copies.{fill-is, clears-is, filled-length, filled-other, filled-rows, cleared-other, cleared-here}
 use Rattle.facts.specs.Facts.{Limited, ListRight, Tabled, Waits, Allowed, Kept}
-use Rattle.rules.specs.Rebalance.{Outcome, unusedCount, publishedOn, heldChunk, namingFrom, unusedFrom, makes, at, clears, begins, drains, copies, swapsIn, releases, rebalanceDoes, liveBefore, withNextChunk}
+use Rattle.rules.specs.Rebalance.{Outcome, unusedCount, publishedOn, heldChunk, namingFrom, unusedFrom, makes, at, clears, begins, drains, copies, swapsIn, releases, rebalanceDoes}
 use Rattle.rules.specs.Calls.{Call, started, starts, steps, does}
 use Rattle.rules.specs.Calls.Call.{start, step, begin, rebalance}
-use Rattle.facts.proofs.Swapping.{beforeOld}
+use Rattle.facts.proofs.SwapIn.{swap-by}
 use Rattle.facts.proofs.Applying.{Applied, applied-by}
 use Rattle.facts.proofs.Going.{Fine}
 use Rattle.facts.proofs.Ends.{decides-fine}
@@ -186,17 +186,7 @@ module _ (z : Sizes) (lim : Limited z) (s : Tables) (kept : Kept z s) (own : Own
   drain-owned = picked (λ (o : Outcome). OwnedBy z (o .tables)) (publishedOn (s .tasks) (s .directory .old)) (λ _. own) (λ _. own)
 
   swap-owned : OwnedBy z (swapsIn z s .tables)
-  swap-owned =
-      picked (λ (x : Tables). OwnedBy z x) (ltb (s .directory .second .0) (z .chunks)) {x = putChunk two (s .directory .second) (liveBefore (chunk s (s .directory .second)) (chunk s (s .directory .old) .next))} {y = two} (λ _. first) (λ _. first)
-    where
-      one : Tables
-      one = pick (eqb (s .directory .first .0) (s .directory .old .0)) s (putChunk s (beforeOld z s) (withNextChunk (chunk s (beforeOld z s)) (s .directory .new)))
-
-      two : Tables
-      two = putChunk one (s .directory .new) (liveBefore (chunk s (s .directory .new)) (pick (ltb (s .directory .second .0) (z .chunks)) (s .directory .second) (chunk s (s .directory .old) .next)))
-
-      first : OwnedBy z one
-      first = picked (OwnedBy z) (eqb (s .directory .first .0) (s .directory .old .0)) (λ _. own) (λ _. own)
+  swap-owned = swap-by z s (OwnedBy z) own (λ x o. o) (λ x o. o) (λ x o. o) (λ x o. o) (λ x d o. o)
 
   -- every copied entry is one of the old chunk's
   module _ (copying : s .directory .stage ≡ toCopy) where

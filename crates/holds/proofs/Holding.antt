@@ -21,7 +21,7 @@ use Rattle.rules.specs.Words.{pick, _and_, _or_, NONE, chunkNo, noChunk, unused
 use Rattle.rules.specs.Tables.{Tables, idleTask, emptyChunk, emptyEntry, chunkAt, chunk, task, putTask, putChunk, withDirectory, withChunks, withEntries}
 use Rattle.rules.specs.Walks.{locate}
 use Rattle.rules.specs.Stages
-use Rattle.rules.specs.Rebalance.{Outcome, unusedCount, unusedFrom, publishedOn, heldChunk, namingFrom, frozenOf, makes, at, clears, begins, drains, copies, swapsIn, releases, rebalanceDoes, liveBefore, withNextChunk, withStatus}
+use Rattle.rules.specs.Rebalance.{Outcome, unusedCount, unusedFrom, publishedOn, heldChunk, namingFrom, frozenOf, makes, at, clears, begins, drains, copies, swapsIn, releases, rebalanceDoes, withNextChunk}
 use Rattle.rules.specs.Calls.{Call, fresh, started, starts, steps, does, calls}
 use Rattle.rules.specs.Calls.Call.{start, step, begin, rebalance}
 use Rattle.laws.proofs.Tests.{picked, by-test}
@@ -34,6 +34,7 @@ use Rattle.facts.proofs.Ends.{decides-fine}
 use Rattle.facts.proofs.Fresh.{getD-all}
 use Rattle.facts.proofs.Writes.{same-chunk}
 use Rattle.facts.proofs.Swapping.{beforeOld}
+use Rattle.facts.proofs.SwapIn.{swap-by}
 use Rattle.facts.proofs.Copying
 use Rattle.facts.proofs.Making.{newRow}
 use Rattle.facts.proofs.Reaching.{calls-does, reached-kept}
@@ -227,35 +228,10 @@ module _ (z : Sizes) (lim : Limited z) (s : Tables) (kept : Kept z s) (held : He
       drained : toCopy ≤ s .directory .stage
       drained = omega arith
 
-      old : ChunkNo
-      old = s .directory .old
-
-      one : Tables
-      one = pick (eqb (s .directory .first .0) (old .0)) s (putChunk s (beforeOld z s) (withNextChunk (chunk s (beforeOld z s)) (s .directory .new)))
-
-      row-a : Chunk
-      row-a = liveBefore (chunk s (s .directory .new)) (pick (ltb (s .directory .second .0) (z .chunks)) (s .directory .second) (chunk s old .next))
-
-      two : Tables
-      two = putChunk one (s .directory .new) row-a
-
-      row-b : Chunk
-      row-b = liveBefore (chunk s (s .directory .second)) (chunk s old .next)
-
-      three : Tables
-      three = pick (ltb (s .directory .second .0) (z .chunks)) (putChunk two (s .directory .second) row-b) two
-
-      at-one : (c : ChunkNo) → chunk s c .status ≡ live → chunkAt (one .chunks) c .status ≡ live
-      at-one c l = picked (λ (x : Tables). chunkAt (x .chunks) c .status ≡ live) (eqb (s .directory .first .0) (old .0)) (λ _. l) (λ _. live-put (s .chunks) (beforeOld z s) (withNextChunk (chunk s (beforeOld z s)) (s .directory .new)) c (λ e. ap (λ (c : ChunkNo). chunk s c .status) (sym e) ∙ l) l)
-
-      at-two : (c : ChunkNo) → chunk s c .status ≡ live → chunkAt (two .chunks) c .status ≡ live
-      at-two c l = live-put (one .chunks) (s .directory .new) row-a c (λ _. refl) (at-one c l)
-
-      at-three : (c : ChunkNo) → chunk s c .status ≡ live → chunkAt (three .chunks) c .status ≡ live
-      at-three c l = picked (λ (x : Tables). chunkAt (x .chunks) c .status ≡ live) (ltb (s .directory .second .0) (z .chunks)) (λ _. live-put (two .chunks) (s .directory .second) row-b c (λ _. refl) (at-two c l)) (λ _. at-two c l)
-
-      last : (c : ChunkNo) → chunk s c .status ≡ live → c ≢ old → chunkAt (swapsIn z s .tables .chunks) c .status ≡ live
-      last c l ne = live-put (three .chunks) old (withStatus (chunk s old) retired) c (λ e. absurd (ne e)) (at-three c l)
+      last : (c : ChunkNo) → chunk s c .status ≡ live → c ≢ s .directory .old → chunkAt (swapsIn z s .tables .chunks) c .status ≡ live
+      last c l ne =
+          swap-by z s (λ x. chunkAt (x .chunks) c .status ≡ live) l (λ x. live-put (x .chunks) (beforeOld z s) (withNextChunk (chunk s (beforeOld z s)) (s .directory .new)) c (λ e. ap (λ (c : ChunkNo). chunk s c .status) (sym e) ∙ l))
+          (λ x. live-put (x .chunks) (s .directory .new) _ c (λ _. refl)) (λ x. live-put (x .chunks) (s .directory .second) _ c (λ _. refl)) (λ x. live-put (x .chunks) (s .directory .old) _ c (λ e. absurd (ne e))) (λ x d e. e)
 
   pub does-held : (c : Call) → Held z (does z s c .tables)
   unfolding does rebalanceDoes

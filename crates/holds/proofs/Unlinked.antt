@@ -25,7 +25,7 @@ use Rattle.rules.specs.Words.{pick, _and_, _or_, NONE, chunkNo, entryNo, noChun
 use Rattle.rules.specs.Tables.{Tables, idleTask, emptyChunk, emptyEntry, chunkAt, chunk, entryAt, entry, row, task, putTask, putChunk, withTasks, withDirectory, withChunks, withEntries}
 use Rattle.rules.specs.Walks.{locate, linked, listFrom}
 use Rattle.rules.specs.Stages
-use Rattle.rules.specs.Rebalance.{Outcome, unusedCount, unusedFrom, publishedOn, heldChunk, namingFrom, frozenOf, makes, at, clears, begins, drains, copies, swapsIn, releases, rebalanceDoes, liveBefore, withNextChunk, withStatus}
+use Rattle.rules.specs.Rebalance.{Outcome, unusedCount, unusedFrom, publishedOn, heldChunk, namingFrom, frozenOf, makes, at, clears, begins, drains, copies, swapsIn, releases, rebalanceDoes}
 use Rattle.rules.specs.Calls.{Call, fresh, started, starts, steps, does, calls}
 use Rattle.rules.specs.Calls.Call.{start, step, begin, rebalance}
 use Rattle.laws.proofs.Tests.{picked, by-test}
@@ -45,6 +45,7 @@ use Rattle.facts.proofs.Copying
 use Rattle.rules.specs.Shape.{numbers}
 use Rattle.laws.specs.Counts.{Every}
 use Rattle.facts.proofs.Swapping.{beforeOld}
+use Rattle.facts.proofs.SwapIn.{swap-by}
 use Rattle.facts.proofs.Reaching.{calls-does, reached-kept}
 use Rattle.holds.specs.Unlinked.{UnlinkedNone}
 use Rattle.holds.proofs.Publishing.{NamesLinked, decides-publish}
@@ -175,46 +176,17 @@ module _ (z : Sizes) (lim : Limited z) (s : Tables) (kept : Kept z s) (un : Unli
       (λ _. un)
 
   swap-unlinked : UnlinkedIn (swapsIn z s .tables)
-  swap-unlinked c e b be i = rw entries-are (rw (last c) (un c e b be (rw entries-are at i)))
+  swap-unlinked c e b be i = rw (after .1) (rw (after .0 c) (un c e b be (rw (after .1) at i)))
     where
-      old : ChunkNo
-      old = s .directory .old
+      -- every chunk's head is as it was, and so are the entries
+      Same : Tables → Type 0
+      Same x = ((f : ChunkNo) → chunkAt (x .chunks) f .head ≡ chunk s f .head) × (x .entries ≡ s .entries)
 
-      one : Tables
-      one = pick (eqb (s .directory .first .0) (old .0)) s (putChunk s (beforeOld z s) (withNextChunk (chunk s (beforeOld z s)) (s .directory .new)))
+      put-same : (d : ChunkNo) (y : Chunk) → y .head ≡ chunk s d .head → (x : Tables) → Same x → Same (putChunk x d y)
+      put-same d y q x o = (λ f. head-put (x .chunks) d y f (λ p. q ∙ ap (λ (c : ChunkNo). chunk s c .head) (sym p) ∙ sym (o .0 f)) ∙ o .0 f, o .1)
 
-      row-a : Chunk
-      row-a = liveBefore (chunk s (s .directory .new)) (pick (ltb (s .directory .second .0) (z .chunks)) (s .directory .second) (chunk s old .next))
-
-      two : Tables
-      two = putChunk one (s .directory .new) row-a
-
-      row-b : Chunk
-      row-b = liveBefore (chunk s (s .directory .second)) (chunk s old .next)
-
-      three : Tables
-      three = pick (ltb (s .directory .second .0) (z .chunks)) (putChunk two (s .directory .second) row-b) two
-
-      at-c : {d : ChunkNo} (x : Tables) → ((f : ChunkNo) → chunkAt (x .chunks) f .head ≡ chunk s f .head) → (f : ChunkNo) → f ≡ d → chunk s d .head ≡ chunkAt (x .chunks) f .head
-      at-c x same f q = ap (λ (c : ChunkNo). chunk s c .head) (sym q) ∙ sym (same f)
-
-      at-one : (f : ChunkNo) → chunkAt (one .chunks) f .head ≡ chunk s f .head
-      at-one f = picked (λ (x : Tables). chunkAt (x .chunks) f .head ≡ chunk s f .head) (eqb (s .directory .first .0) (old .0)) (λ _. refl) (λ _. head-put (s .chunks) (beforeOld z s) (withNextChunk (chunk s (beforeOld z s)) (s .directory .new)) f (λ q. ap (λ (c : ChunkNo). chunk s c .head) (sym q)))
-
-      at-two : (f : ChunkNo) → chunkAt (two .chunks) f .head ≡ chunk s f .head
-      at-two f = head-put (one .chunks) (s .directory .new) row-a f (λ q. at-c one at-one f q) ∙ at-one f
-
-      at-three : (f : ChunkNo) → chunkAt (three .chunks) f .head ≡ chunk s f .head
-      at-three f = picked (λ (x : Tables). chunkAt (x .chunks) f .head ≡ chunk s f .head) (ltb (s .directory .second .0) (z .chunks)) (λ _. head-put (two .chunks) (s .directory .second) row-b f (λ q. at-c two at-two f q) ∙ at-two f) (λ _. at-two f)
-
-      last : (f : ChunkNo) → chunkAt (swapsIn z s .tables .chunks) f .head ≡ chunk s f .head
-      last f = head-put (three .chunks) old (withStatus (chunk s old) retired) f (λ q. at-c three at-three f q) ∙ at-three f
-
-      entries-are : swapsIn z s .tables .entries ≡ s .entries
-      entries-are = picked (λ (x : Tables). x .entries ≡ s .entries) (ltb (s .directory .second .0) (z .chunks)) {x = putChunk two (s .directory .second) row-b} {y = two} (λ _. first) (λ _. first)
-        where
-          first : one .entries ≡ s .entries
-          first = picked (λ (x : Tables). x .entries ≡ s .entries) (eqb (s .directory .first .0) (old .0)) (λ _. refl) (λ _. refl)
+      after : Same (swapsIn z s .tables)
+      after = swap-by z s Same (λ f. refl, refl) (put-same (beforeOld z s) _ refl) (put-same (s .directory .new) _ refl) (put-same (s .directory .second) _ refl) (put-same (s .directory .old) _ refl) (λ x d o. o)
 
   copy-unlinked : s .directory .stage ≡ toCopy → UnlinkedIn (copies z s .tables)
   copy-unlinked stage =
