@@ -23,7 +23,7 @@ use Rattle.handles.proofs.Owning.{OwnedBy, does-owned}
 
 module _ (z : Sizes) (lim : Limited z) where
   fresh-owned : OwnedBy z (fresh z)
-  fresh-owned = record { one-key = λ h j k b x _. absurd (never h b (sym (x .names) ∙ row-none (x .chunk) (x .entry))); new-own = λ n b _. absurd (never _ b (ap (λ t. t .new .0) (getD-all (z .tasks) n idleTask))) }
+  fresh-owned = record { one-key = λ h j k b x _. absurd (never h b (sym (x .names) ∙ row-none (x .chunk) (x .entry))); new-own = λ n b _. absurd (never _ b (ap (λ t. t .new .0) (getD-all (z .tasks) n idleTask))); old-key = λ n k b _. absurd (never _ b (ap (λ t. t .old .0) (getD-all (z .tasks) n idleTask))) }
     where
       never : (h : ℕ) → h < z .handles → h ≡ NONE → ⊥
       never h b e = omega (arith, lim .handles)

@@ -42,7 +42,7 @@ use Rattle.facts.proofs.Writes.{same-chunk, inside}
 use Rattle.facts.proofs.Copying
 use Rattle.facts.proofs.Making.{newRow}
 use Rattle.handles.specs.Owned.{Row, NamedUnder, Unnamed, OneKey, NewOwn, Owned, Sourced}
-use Rattle.handles.proofs.Naming.{Passes, put, sourced-same, sourced-owned, named-owned, name-none, task-owned}
+use Rattle.handles.proofs.Naming.{Passes, put, sourced-same, sourced-owned, named-owned, name-none, old-not, task-owned}
 use Rattle.handles.proofs.Passing.{NamesRight, Passed, decides-pass}
 
 -- ---- tables whose names come from others
@@ -93,7 +93,7 @@ module _ (z : Sizes) (lim : Limited z) (es : List Entry) (len : length es ≡ z 
 module _ (z : Sizes) (lim : Limited z) (s : Tables) (h : Tabled z (s .directory) (s .chunks) (s .entries)) (t t′ : Task) (tasks tasks′ : ℕ → Task) where
   -- what the write leaves, where the tasks' facts hold already
   write-owned : (w : Write) → Allowed z (s .chunks) (s .entries) w → NamesRight z t t′ w →
-      ((t .new .0 < z .handles) → t .swapped ≡ 0 → t′ .swapped ≡ 1 → Unnamed z (s .entries) (t .new .0) × ((n : ℕ) → tasks′ n .swapped ≡ 0 → tasks′ n .new .0 ≢ t .new .0)) →
+      ((t .new .0 < z .handles) → t .swapped ≡ 0 → t′ .swapped ≡ 1 → Unnamed z (s .entries) (t .new .0) × ((n : ℕ) → tasks′ n .swapped ≡ 0 → tasks′ n .new .0 ≢ t .new .0) × ((n : ℕ) → tasks′ n .old .0 ≢ t .new .0)) →
       Owned z (s .entries) tasks′ → Owned z (Stages.apply z s w .entries) tasks′
   write-owned write.Nothing a m u own = own
   write-owned (write.Slot c k) a m u own = sourced-owned z (s .entries) _ tasks′ (slot-sourced z lim (s .entries) (h .entries-sized) c (entryNo (chunk s c .used)) k (record { chunk = a .0; entry = a .2 })) own
@@ -120,7 +120,7 @@ module _ (z : Sizes) (lim : Limited z) (s : Tables) (h : Tabled z (s .directory)
     where
       go : (NONE ≡ n .0) ⊎ ((n .0 ≡ t .new .0) × (t .new .0 < z .handles) × (t .swapped ≡ 0) × (t′ .swapped ≡ 1)) → Owned z (set (s .entries) (row z c e) (Stages.withHandle (entry z s c e) n)) tasks′
       go (inl q) = sourced-owned z (s .entries) _ tasks′ (name-none z (s .entries) c e n (h .entries-sized) (m .0) q (lim .handles)) own
-      go (inr q) = let x = u (q .1) (q .2) (q .3) in named-owned z (s .entries) tasks′ c e n (h .entries-sized) (m .0) (rw (q .0) (x .0)) (λ j b. rw (q .0) (x .1 j b)) own
+      go (inr q) = let x = u (q .1) (q .2) (q .3) in named-owned z (s .entries) tasks′ c e n (h .entries-sized) (m .0) (rw (q .0) (x .0)) (λ j b. rw (q .0) (x .1 j b)) (λ j. rw (q .0) (x .2 j)) own
 
 -- the tables' facts of handles
 abbrev pub OwnedBy : Sizes → Tables → Type 0
@@ -149,8 +149,8 @@ module _ (z : Sizes) (lim : Limited z) (s : Tables) (kept : Kept z s) (own : Own
       own₁ : Owned z (s .entries) (task s₁)
       own₁ = task-owned z (lim .handles) (s .entries) (task s) (task s₁) n (x .task) is own (pass .passes)
 
-      apart : task s n .new .0 < z .handles → task s n .swapped ≡ 0 → x .task .swapped ≡ 1 → Unnamed z (s .entries) (task s n .new .0) × ((m : ℕ) → task s₁ m .swapped ≡ 0 → task s₁ m .new .0 ≢ task s n .new .0)
-      apart i w sw = (o .unnamed, λ m u. other m u (is m))
+      apart : task s n .new .0 < z .handles → task s n .swapped ≡ 0 → x .task .swapped ≡ 1 → Unnamed z (s .entries) (task s n .new .0) × ((m : ℕ) → task s₁ m .swapped ≡ 0 → task s₁ m .new .0 ≢ task s n .new .0) × ((m : ℕ) → task s₁ m .old .0 ≢ task s n .new .0)
+      apart i w sw = (o .unnamed, λ m u. other m u (is m), old-not z (lim .handles) (s .entries) (task s) (task s₁) n (x .task) is own (pass .passes) (task s n .new .0) i (o .unnamed) (o .not-old))
         where
           o : NewOwn z (s .entries) (task s) n
           o = own .new-own n i w
