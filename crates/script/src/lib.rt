@@ -1,0 +1,21 @@
+// A script's text: what a line asks, and the lines that answer it.
+mod line;
+mod print;
+mod tables;
+
+pub use line::Asked;
+pub use line::Line;
+pub use line::asks;
+pub use line::empty;
+pub use line::next;
+pub use print::byte;
+pub use print::field;
+pub use print::line as text_line;
+pub use print::number;
+pub use print::report;
+pub use print::text;
+pub use tables::chunk_line;
+pub use tables::directory_lines;
+pub use tables::entry_line;
+pub use tables::handle_line;
+pub use tables::task_line;
