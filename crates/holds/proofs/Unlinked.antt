@@ -30,7 +30,7 @@ use Rattle.rules.specs.Calls.{Call, fresh, started, starts, steps, does, calls}
 use Rattle.rules.specs.Calls.Call.{start, step, begin, rebalance}
 use Rattle.laws.proofs.Tests.{picked, by-test}
 use Rattle.views.specs.Copies.{filled, cleared, upFrom, Rising}
-use Rattle.views.proofs.Rows.{entry-put}
+use Rattle.views.proofs.Rows.{chunk-either, entry-put}
 use Rattle.views.proofs.Copies.{fill-is, clears-is, cleared-other, cleared-here}
 use Rattle.facts.specs.Facts.{Limited, listed, Tabled, Waits, Allowed, Kept}
 use Rattle.facts.specs.Reached.{Reached}
@@ -58,10 +58,7 @@ list-same z es es′ c same (suc fuel) e = by-test (ltb (e .0) (z .entries)) (λ
 
 -- a head stays where what is written has it
 head-put : (cs : List Chunk) (d : ChunkNo) (x : Chunk) (c : ChunkNo) → (c ≡ d → x .head ≡ chunkAt cs c .head) → chunkAt (set cs (d .0) x) c .head ≡ chunkAt cs c .head
-head-put cs d x c f = ⊎-elim (λ (e : c ≡ d). here e) (λ ne. ap (λ (y : Chunk). y .head) (getD-set-other cs (d .0) (c .0) x emptyChunk (λ e. ne (ap chunkNo e)))) (same-chunk c d)
-  where
-    here : c ≡ d → chunkAt (set cs (d .0) x) c .head ≡ chunkAt cs c .head
-    here e = elim (decLt (d .0) (length cs)) [ yes b ↦ rw e (ap (λ (y : Chunk). y .head) (getD-set-same cs (d .0) x emptyChunk b) ∙ f e ∙ ap (λ (c : ChunkNo). chunkAt cs c .head) e) | no out ↦ rw (set-out cs (d .0) x (omega arith)) refl ]
+head-put cs d x c f = chunk-either cs d x c (λ y. y .head ≡ chunkAt cs c .head) f refl
 
 up-from-in : (n m : ℕ) (e : EntryNo) → n ≤ e .0 → e .0 < n + m → List·Memᴰ e (upFrom n m)
 unfolding upFrom

@@ -155,3 +155,21 @@ module _ (z : Sizes) (c : ChunkNo) where
     -- the same over the list that is made
     pub filled-every : (P : ℕ → Type 0) (n : ℕ) (l es : List Entry) → n + length l ≤ z .entries → length es ≡ z .chunks * z .entries → Every (λ x. P (x .key)) l → Every (λ e. P (entryAt z (filled z c n l es) c e .key)) (upFrom n (length l))
     filled-every P n l es le len all e m = filled-rows (λ y. P (y .key)) n l es le len (λ x o e _. all x o) e (up-from n (length l) e m .0) (up-from n (length l) e m .1)
+
+    -- each of the list stands in a row filled
+    pub filled-in : (n : ℕ) (l es : List Entry) → n + length l ≤ z .entries → length es ≡ z .chunks * z .entries → (x : Entry) → List·Memᴰ x l →
+        (e : EntryNo) × (e .0 < n + length l) × (entryAt z (filled z c n l es) c e .handle ≡ x .handle) × (entryAt z (filled z c n l es) c e .key ≡ x .key)
+    filled-in n [] es le len x m = absurd (List·Memᴰ·not-nil m)
+    filled-in n (y ∷ l) es le len x m = ⊎-elim (λ (p : x ≡ y). here p) (λ o. rw (filled-on n y l es) (later (filled z c (n + 1) l on) (filled-in (n + 1) l on (omega arith) (length-set es _ _ ∙ len) x o))) (List·Memᴰ·cases-cons m)
+      where
+        on : List Entry
+        on = set es (row z c (entryNo n)) (record { key = y .key; handle = y .handle; next = pick (eqb (length l) 0) noEntry (entryNo (n + 1)) })
+
+        Found : List Entry → ℕ → Type 0
+        Found r top = (e : EntryNo) × (e .0 < top) × (entryAt z r c e .handle ≡ x .handle) × (entryAt z r c e .key ≡ x .key)
+
+        here : x ≡ y → Found (filled z c n (y ∷ l) es) (n + suc (length l))
+        here p = (entryNo n, omega arith, rw (filled-first n y l es le len) (ap (λ (v : Entry). v .handle) (sym p)), rw (filled-first n y l es le len) (ap (λ (v : Entry). v .key) (sym p)))
+
+        later : (r : List Entry) → Found r (n + 1 + length l) → Found r (n + suc (length l))
+        later r f = (f .0, omega (arith, f .1), f .2, f .3)

@@ -5,11 +5,11 @@ use mathlib.Core.Logic.{_≢_}
 use mathlib.Core.Bool.{Bool, true, false}
 use mathlib.Core.List.{List, [], _∷_}
 use native.Mathlib.Nat.{not-suc-le-zero, le-of-suc-le-suc}
-use native.Mathlib.Decide.{ℕ-discrete}
+use native.Mathlib.Decide.{ℕ-discrete, decLt}
 use native.Mathlib.Omega.{arith}
 use lib.Dec.{eqb}
 use lib.ListN.{length, getD, set}
-use lib.Seq.{getD-set-same, getD-set-other}
+use lib.Seq.{getD-set-same, getD-set-other, set-out}
 use Rattle.rules.specs.declared.Sizes.{Sizes}
 use Rattle.rules.specs.declared.Chunk.{Chunk}
 use Rattle.rules.specs.declared.Entry.{Entry}
@@ -24,6 +24,10 @@ use Rattle.laws.proofs.Lists.{getD-set, row-within, row-block, row-place}
 
 pub chunk-put : (cs : List Chunk) (d : ChunkNo) (x : Chunk) (c : ChunkNo) (P : Chunk → Type 0) → d .0 < length cs → (c ≡ d → P x) → (c ≢ d → P (chunkAt cs c)) → P (chunkAt (set cs (d .0) x) c)
 chunk-put cs d x c P b f g = getD-set cs (d .0) x emptyChunk (c .0) P b (λ e. f (ap chunkNo e)) (λ ne. g (λ e. ne (ap (λ (c : ChunkNo). c .0) e)))
+
+-- the same of any number
+pub chunk-either : (cs : List Chunk) (d : ChunkNo) (x : Chunk) (c : ChunkNo) (P : Chunk → Type 0) → (c ≡ d → P x) → P (chunkAt cs c) → P (chunkAt (set cs (d .0) x) c)
+chunk-either cs d x c P f g = elim (decLt (d .0) (length cs)) [ yes b ↦ chunk-put cs d x c P b f (λ _. g) | no out ↦ rw (set-out cs (d .0) x (omega arith)) g ]
 
 pub entry-put : (z : Sizes) (es : List Entry) (d : ChunkNo) (i : EntryNo) (x : Entry) (c : ChunkNo) (e : EntryNo) (P : Entry → Type 0) →
     length es ≡ z .chunks * z .entries → d .0 < z .chunks → i .0 < z .entries → e .0 < z .entries →
