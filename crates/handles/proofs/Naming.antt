@@ -23,7 +23,7 @@ use Rattle.handles.specs.Owned.{Row, NamedUnder, Unnamed, OneKey, NewOwn
 module _ (z : Sizes) where
   -- ---- the entries change
   -- what names a handle in the second table does so in the first
-  sourced-back : (es es′ : List Entry) → Sourced z es es′ → (n i : ℕ) → n < z .handles → NamedUnder z es′ n i → NamedUnder z es n i
+  pub sourced-back : (es es′ : List Entry) → Sourced z es es′ → (n i : ℕ) → n < z .handles → NamedUnder z es′ n i → NamedUnder z es n i
   sourced-back es es′ from n i b v = subst (λ (m : ℕ). NamedUnder z es m i) (v .names) (subst (λ (m : ℕ). NamedUnder z es (entryAt z es′ (v .chunk) (v .entry) .handle .0) m) (v .keyed) (from (v .chunk) (v .entry) (v .row) (rw (v .names) b)))
 
   pub sourced-one-key : (es es′ : List Entry) → Sourced z es es′ → OneKey z es → OneKey z es′

@@ -210,9 +210,12 @@ module _ (z : Sizes) (lim : Limited z) (s : Tables) (kept : Kept z s) (own : Own
     abbrev b : ChunkNo
     b = unusedFrom (drop (a .0 + 1) (s .chunks)) (a .0 + 1)
 
-    copy-owned : OwnedBy z (copies z s .tables)
-    copy-owned =
-        picked (λ (o : Outcome). OwnedBy z (o .tables)) (leb (length l) (z .entries / 2)) (λ _. one) (λ t. two (leb-false _ _ t))
+    abbrev FromHere : Tables → Type 0
+    FromHere x = Sourced z (s .entries) (x .entries) × (x .tasks ≡ s .tasks)
+
+    -- what names a handle after copy names it before
+    pub copy-sourced : Sourced z (s .entries) (copies z s .tables .entries) × (copies z s .tables .tasks ≡ s .tasks)
+    copy-sourced = picked (λ (o : Outcome). FromHere (o .tables)) (leb (length l) (z .entries / 2)) (λ _. one) (λ t. two (leb-false _ _ t))
       where
         Row-of : List Entry → Type 0
         Row-of = Every (λ x. x .handle .0 < z .handles → NamedUnder z (s .entries) (x .handle .0) (x .key))
@@ -220,13 +223,13 @@ module _ (z : Sizes) (lim : Limited z) (s : Tables) (kept : Kept z s) (own : Own
         filled-one : (r : List Entry) → length r ≤ z .entries → Row-of r → Sourced z (s .entries) (filled z a 0 r (s .entries))
         filled-one r short all = filled-sourced z lim (s .entries) len (s .entries) (sourced-same z (s .entries)) len a (Copying.a-free z lim s kept copying .0) r short all
 
-        one : OwnedBy z (makes z (withDirectory s (at z s toSwap a noChunk)) a (chunk s old .min) l)
-        one = rw (fill-is z a (withDirectory s (at z s toSwap a noChunk)) 0 l) (sourced-owned z (s .entries) (filled z a 0 l (s .entries)) (task s) (filled-one l (Copying.l-short z lim s kept copying) l-named) own)
+        one : FromHere (makes z (withDirectory s (at z s toSwap a noChunk)) a (chunk s old .min) l)
+        one = rw (fill-is z a (withDirectory s (at z s toSwap a noChunk)) 0 l) (filled-one l (Copying.l-short z lim s kept copying) l-named, refl)
 
-        two : z .entries / 2 < length l → OwnedBy z (makes z (makes z (withDirectory s (at z s toSwap a b)) a (chunk s old .min) (take ((length l + 1) / 2) l)) b (getD l ((length l + 1) / 2) emptyEntry .key) (drop ((length l + 1) / 2) l))
+        two : z .entries / 2 < length l → FromHere (makes z (makes z (withDirectory s (at z s toSwap a b)) a (chunk s old .min) (take ((length l + 1) / 2) l)) b (getD l ((length l + 1) / 2) emptyEntry .key) (drop ((length l + 1) / 2) l))
         two over =
             rw (fill-is z a (withDirectory s (at z s toSwap a b)) 0 l₁, fill-is z b (withChunks (withEntries (withDirectory s (at z s toSwap a b)) es₁) (set (s .chunks) (a .0) (newRow (chunk s old .min) l₁))) 0 l₂)
-            (sourced-owned z (s .entries) (filled z b 0 l₂ es₁) (task s) (filled-sourced z lim (s .entries) len es₁ (filled-one l₁ (Copying.l₁-short z lim s kept copying over) (every-take (λ x. x .handle .0 < z .handles → NamedUnder z (s .entries) (x .handle .0) (x .key)) ((length l + 1) / 2) l l-named)) (filled-length z a 0 l₁ (s .entries) ∙ len) b (Copying.b-free z lim s kept copying .0) l₂ (Copying.l₂-short z lim s kept copying over) (every-drop (λ x. x .handle .0 < z .handles → NamedUnder z (s .entries) (x .handle .0) (x .key)) ((length l + 1) / 2) l l-named)) own)
+            (filled-sourced z lim (s .entries) len es₁ (filled-one l₁ (Copying.l₁-short z lim s kept copying over) (every-take (λ x. x .handle .0 < z .handles → NamedUnder z (s .entries) (x .handle .0) (x .key)) ((length l + 1) / 2) l l-named)) (filled-length z a 0 l₁ (s .entries) ∙ len) b (Copying.b-free z lim s kept copying .0) l₂ (Copying.l₂-short z lim s kept copying over) (every-drop (λ x. x .handle .0 < z .handles → NamedUnder z (s .entries) (x .handle .0) (x .key)) ((length l + 1) / 2) l l-named), refl)
           where
             l₁ : List Entry
             l₁ = take ((length l + 1) / 2) l
@@ -236,6 +239,9 @@ module _ (z : Sizes) (lim : Limited z) (s : Tables) (kept : Kept z s) (own : Own
 
             es₁ : List Entry
             es₁ = filled z a 0 l₁ (s .entries)
+
+    copy-owned : OwnedBy z (copies z s .tables)
+    copy-owned = subst (λ (ts : List Task). Owned z (copies z s .tables .entries) (λ m. getD ts m idleTask)) (sym (copy-sourced .1)) (sourced-owned z (s .entries) (copies z s .tables .entries) (task s) (copy-sourced .0) own)
 
   release-owned : s .directory .stage ≡ toRelease → OwnedBy z (releases z s .tables)
   release-owned e = picked (λ (o : Outcome). OwnedBy z (o .tables)) (heldChunk (s .tasks) (s .directory .old)) (λ _. own) (λ _. cleared-owned)

@@ -1,2 +1,4 @@
 pub mod Acts
 pub mod Rows
+pub mod Copied
+pub mod Keeping
