@@ -2,3 +2,6 @@ pub mod Acts
 pub mod Rows
 pub mod Copied
 pub mod Keeping
+pub mod Moving
+pub mod Living
+pub mod Showing
