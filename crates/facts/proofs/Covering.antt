@@ -1,9 +1,7 @@
 -- Live chunks cover all keys, by the facts.
-use Prim.Native.Nat.{ℕ, _+_, _≤_, _<_}
-use mathlib.Core.Path.{_≡_, refl, sym, ap, _∙_}
+use Prim.Native.Nat.{ℕ}
+use mathlib.Core.Path.{_≡_, sym, ap, _∙_}
 use mathlib.Core.List.{List, [], _∷_, map, List·Memᴰ}
-use native.Mathlib.Omega.{arith}
-use lib.ListN.{length}
 use Rattle.rules.specs.declared.Sizes.{Sizes}
 use Rattle.rules.specs.declared.Entry.{Entry}
 use Rattle.rules.specs.declared.ChunkNo.{ChunkNo}
@@ -11,11 +9,10 @@ use Rattle.rules.specs.declared.EntryNo.{EntryNo}
 use Rattle.rules.specs.Words.{live}
 use Rattle.rules.specs.Tables.{Tables, chunk, entry, entryAt}
 use Rattle.rules.specs.Walks.{locate, linked}
-use Rattle.views.specs.Views.{Links, Chain, InRange, chain}
+use Rattle.views.specs.Views.{Links, InRange, chain}
 use Rattle.views.proofs.Entries.{links-one}
 use Rattle.views.proofs.Chunks.{chain-view, chain-live, chain-one}
-use Rattle.facts.specs.Facts.{Limited, Chained, Tabled, Kept}
-use Rattle.facts.specs.Reached.{Reached}
+use Rattle.facts.specs.Facts.{Limited, Chained, Kept}
 use Rattle.facts.specs.RangesCover.{Live, Ascending, RangesCover}
 use Rattle.facts.proofs.Shapes.{chain-short}
 use Rattle.facts.proofs.Going.{located}

@@ -1,10 +1,10 @@
 -- Which stages an operation fits, by trying the seven operations.
 use Prim.Native.Nat.{ℕ, zero, suc, _<_}
-use mathlib.Core.Path.{_≡_, refl}
+use mathlib.Core.Path.{_≡_}
 use mathlib.Core.Bool.{Bool, true, false, false≢true}
 use native.Mathlib.Nat.{not-suc-le-zero, eq-or-lt-of-le, le-of-suc-le-suc}
 use native.Mathlib.Omega.{arith}
-use lib.Dec.{eqb, leb}
+use lib.Dec.{eqb}
 use borrow.Author.Tests.{eqb-true}
 use Rattle.rules.specs.Words.{pick, _and_, _or_, get, put, putIfAbsent, upsert, compute, remove, scan}
 use Rattle.rules.specs.Shape.{fitsOperation}

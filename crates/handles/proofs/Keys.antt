@@ -1,17 +1,16 @@
 -- No handle is named under two keys, nor by two live entries, in every reached table.
-use Prim.Native.Nat.{ℕ, zero, suc, _*_, _≤_, _<_}
+use Prim.Native.Nat.{ℕ, _*_, _<_}
 use mathlib.Core.Path.{_≡_, refl, sym, ap, _∙_}
-use mathlib.Core.Logic.{_≢_}
-use mathlib.Core.List.{List, List·Memᴰ}
+use mathlib.Core.List.{List·Memᴰ}
 use native.Mathlib.Nat.{le-trans}
 use native.Mathlib.Omega.{arith}
-use lib.ListN.{getD, replicate}
+use lib.ListN.{replicate}
 use Rattle.rules.specs.declared.Sizes.{Sizes}
 use Rattle.rules.specs.declared.ChunkNo.{ChunkNo}
 use Rattle.rules.specs.declared.EntryNo.{EntryNo}
 use Rattle.rules.specs.declared.HandleNo.{HandleNo}
 use Rattle.rules.specs.Words.{NONE}
-use Rattle.rules.specs.Tables.{Tables, idleTask, emptyEntry, chunk, entryAt, entry, row, task}
+use Rattle.rules.specs.Tables.{Tables, idleTask, emptyEntry, chunk, entryAt, entry, row}
 use Rattle.rules.specs.Calls.{Call, fresh, calls}
 use Rattle.facts.specs.Facts.{Limited, Kept}
 use Rattle.rules.specs.Walks.{linked}
@@ -21,8 +20,7 @@ use Rattle.facts.proofs.Writes.{inside}
 use Rattle.facts.proofs.Covering.{rows-one}
 use Rattle.facts.proofs.Fresh.{getD-all}
 use Rattle.facts.proofs.Reaching.{calls-does, reached-kept}
-use Rattle.handles.specs.Owned.{Row, NamedUnder, Owned}
-use Rattle.handles.specs.OneKeyEach.{InUse, OneKeyEach}
+use Rattle.handles.specs.OneKeyEach.{OneKeyEach}
 use Rattle.handles.specs.LiveOnce.{LiveOnce}
 use Rattle.handles.proofs.Owning.{OwnedBy, does-owned}
 

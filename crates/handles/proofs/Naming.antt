@@ -1,12 +1,11 @@
 -- What a change of the entries' table, or of one task's row, leaves of the facts of handles.
-use Prim.Native.Nat.{ℕ, zero, suc, _+_, _*_, _≤_, _<_}
+use Prim.Native.Nat.{ℕ, _*_, _≤_, _<_}
 use mathlib.Core.Path.{_≡_, refl, sym, ap, _∙_, subst}
 use mathlib.Core.Logic.{_⊎_, inl, inr, ⊎-elim, _≢_}
-use mathlib.Core.Bool.{Bool, true, false}
-use mathlib.Core.List.{List, [], _∷_}
-use native.Mathlib.Decide.{ℕ-discrete, decLt}
+use mathlib.Core.List.{List}
+use native.Mathlib.Decide.{ℕ-discrete}
 use native.Mathlib.Omega.{arith}
-use lib.ListN.{length, getD, set}
+use lib.ListN.{length, set}
 use Rattle.rules.specs.declared.Sizes.{Sizes}
 use Rattle.rules.specs.declared.Task.{Task}
 use Rattle.rules.specs.declared.Entry.{Entry}
@@ -14,9 +13,8 @@ use Rattle.rules.specs.declared.ChunkNo.{ChunkNo}
 use Rattle.rules.specs.declared.EntryNo.{EntryNo}
 use Rattle.rules.specs.declared.HandleNo.{HandleNo}
 use Rattle.rules.specs.Words.{NONE}
-use Rattle.rules.specs.Tables.{Tables, idleTask, entryAt, row}
+use Rattle.rules.specs.Tables.{entryAt, row}
 use Rattle.rules.specs.Stages.{withHandle}
-use Rattle.laws.proofs.Lists.{getD-set}
 use Rattle.views.proofs.Rows.{entry-put}
 use Rattle.handles.specs.Owned.{Row, NamedUnder, Unnamed, OneKey, NewOwn, OldKey, Owned, Sourced}
 

@@ -1,14 +1,13 @@
 -- Every call keeps one key to each handle, and each new handle one task's own.
-use Prim.Native.Nat.{ℕ, zero, suc, _+_, _*_, _/_, _≤_, _<_}
+use Prim.Native.Nat.{ℕ, _+_, _*_, _/_, _≤_, _<_}
 use mathlib.Core.Path.{_≡_, refl, sym, ap, _∙_, subst}
 use mathlib.Core.Logic.{_⊎_, inl, inr, ⊎-elim, _≢_}
-use mathlib.Core.Bool.{Bool, true, false}
-use mathlib.Core.List.{List, [], _∷_, List·Memᴰ}
+use mathlib.Core.List.{List}
 use native.Mathlib.Nat.{le-trans, le-refl, zero-add}
 use native.Mathlib.Decide.{ℕ-discrete, decLt}
 use native.Mathlib.Omega.{arith}
 use lib.Dec.{eqb, ltb, leb}
-use lib.ListN.{length, getD, set, take, drop, replicate, length-set}
+use lib.ListN.{length, getD, set, take, drop, length-set}
 use lib.Seq.{getD-set-same, getD-set-other}
 use borrow.Author.Tests.{ltb-true, leb-false, eqb-true}
 use Rattle.rules.specs.declared.Sizes.{Sizes}
@@ -20,17 +19,17 @@ use Rattle.rules.specs.declared.EntryNo.{EntryNo}
 use Rattle.rules.specs.declared.Decision.{Decision}
 use Rattle.rules.specs.declared.Write.{Write}
 use Rattle.rules.specs.declared.Write.the-variants as write
-use Rattle.rules.specs.Words.{pick, _and_, _or_, NONE, entryNo, noHandle, noEntry, noChunk, usesFunction, scan, idle, toDrain, toCopy, toSwap, toRelease}
+use Rattle.rules.specs.Words.{_and_, _or_, NONE, entryNo, noHandle, noEntry, noChunk, usesFunction, scan, idle, toDrain, toCopy, toSwap, toRelease}
 use Rattle.rules.specs.Tables.{Tables, idleTask, emptyChunk, emptyEntry, withDirectory, withChunks, withEntries, chunk, entryAt, entry, task, putTask, putChunk, row}
 use Rattle.rules.specs.Walks.{linked}
 use Rattle.rules.specs.Stages
 use Rattle.laws.specs.Counts.{Every}
-use Rattle.laws.proofs.Tests.{picked, by-test}
+use Rattle.laws.proofs.Tests.{picked}
 use Rattle.views.specs.Copies.{filled, cleared}
 use Rattle.views.proofs.Rows.{entry-put}
 use Rattle.views.proofs.Naming.{naming-every, every-take, every-drop}
 use Rattle.views.proofs.Copies.{fill-is, clears-is, filled-length, filled-other, filled-rows, cleared-other, cleared-here}
-use Rattle.facts.specs.Facts.{Limited, ListRight, Tabled, Waits, Allowed, Kept}
+use Rattle.facts.specs.Facts.{Limited, Tabled, Waits, Allowed, Kept}
 use Rattle.rules.specs.Rebalance.{Outcome, unusedCount, publishedOn, heldChunk, namingFrom, unusedFrom, makes, at, clears, begins, drains, copies, swapsIn, releases, rebalanceDoes}
 use Rattle.rules.specs.Calls.{Call, started, starts, steps, does}
 use Rattle.rules.specs.Calls.Call.{start, step, begin, rebalance}
@@ -41,8 +40,8 @@ use Rattle.facts.proofs.Ends.{decides-fine}
 use Rattle.facts.proofs.Writes.{same-chunk, inside}
 use Rattle.facts.proofs.Copying
 use Rattle.facts.proofs.Making.{newRow}
-use Rattle.handles.specs.Owned.{Row, NamedUnder, Unnamed, OneKey, NewOwn, Owned, Sourced}
-use Rattle.handles.proofs.Naming.{Passes, put, sourced-same, sourced-owned, named-owned, name-none, old-not, task-owned}
+use Rattle.handles.specs.Owned.{Row, NamedUnder, Unnamed, NewOwn, Owned, Sourced}
+use Rattle.handles.proofs.Naming.{put, sourced-same, sourced-owned, named-owned, name-none, old-not, task-owned}
 use Rattle.handles.proofs.Passing.{NamesRight, Passed, decides-pass}
 
 -- ---- tables whose names come from others

@@ -1,19 +1,18 @@
 -- What a step's write may be, by the stage, and whether it decides.
-use Prim.Native.Nat.{ℕ, _+_, _≤_, _<_}
-use mathlib.Core.Path.{_≡_, refl, sym, ap, _∙_}
+use Prim.Native.Nat.{ℕ, _≤_, _<_}
+use mathlib.Core.Path.{_≡_, refl, sym, _∙_}
 use mathlib.Core.Logic.{_⊎_, inl, inr, ⊎-elim, ⊎-map, _≢_}
-use mathlib.Core.Bool.{Bool, true, false, false≢true}
+use mathlib.Core.Bool.{true, false, false≢true}
 use mathlib.Core.List.{List}
 use native.Mathlib.Omega.{arith}
 use lib.Dec.{eqb, ltb, leb}
-use lib.ListN.{getD}
 use borrow.Author.Tests.{ltb-true, eqb-true}
 use Rattle.rules.specs.declared.Sizes.{Sizes}
 use Rattle.rules.specs.declared.Task.{Task}
 use Rattle.rules.specs.declared.Decision.{Decision}
 use Rattle.rules.specs.declared.Write.{Write}
 use Rattle.rules.specs.declared.Write.the-variants as write
-use Rattle.rules.specs.Words.{pick, _and_, _or_, noHandle, get, put, putIfAbsent, upsert, compute, remove, inserts}
+use Rattle.rules.specs.Words.{_and_, _or_, noHandle, get, put, putIfAbsent, upsert, compute, remove, inserts}
 use Rattle.rules.specs.Tables.{Tables, chunk, entry, mark, value}
 use Rattle.rules.specs.Walks.{locate, find, lowestFree, firstPresent}
 use Rattle.rules.specs.Stages

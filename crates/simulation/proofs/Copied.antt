@@ -1,8 +1,8 @@
 -- What copy leaves of the names, and that the new chunks name what the old one names.
-use Prim.Native.Nat.{ℕ, zero, suc, _+_, _*_, _/_, _≤_, _<_}
+use Prim.Native.Nat.{ℕ, _+_, _/_, _≤_, _<_}
 use mathlib.Core.Path.{_≡_, refl, sym, ap, _∙_, subst}
 use mathlib.Core.Logic.{_⊎_, inl, inr, ⊎-elim, _≢_}
-use mathlib.Core.Bool.{Bool, true, false}
+use mathlib.Core.Bool.{true}
 use mathlib.Core.List.{List, List·Memᴰ}
 use native.Mathlib.Nat.{le-trans, zero-add}
 use native.Mathlib.Decide.{decLt}
@@ -16,7 +16,7 @@ use Rattle.rules.specs.declared.Entry.{Entry}
 use Rattle.rules.specs.declared.ChunkNo.{ChunkNo}
 use Rattle.rules.specs.declared.EntryNo.{EntryNo}
 use Rattle.rules.specs.declared.HandleNo.{HandleNo}
-use Rattle.rules.specs.Words.{pick, NONE, noChunk, unused, live, new, toCopy, toSwap}
+use Rattle.rules.specs.Words.{NONE, noChunk, unused, live, new, toCopy, toSwap}
 use Rattle.rules.specs.Tables.{Tables, emptyEntry, chunkAt, chunk, entryAt, withDirectory, withChunks, withEntries}
 use Rattle.rules.specs.Walks.{linked}
 use Rattle.rules.specs.Rebalance.{Outcome, unusedFrom, namingFrom, makes, at, copies}
@@ -29,7 +29,7 @@ use Rattle.views.proofs.Entries.{links-length}
 use Rattle.views.proofs.Naming.{take-drop-in, naming-in, naming-every, every-take, every-drop}
 use Rattle.facts.specs.Facts.{Limited, Kept}
 use Rattle.facts.proofs.Putting.{Based}
-use Rattle.facts.proofs.Writes.{same-chunk, inside}
+use Rattle.facts.proofs.Writes.{inside}
 use Rattle.facts.proofs.Making
 use Rattle.facts.proofs.Making.{newRow}
 use Rattle.facts.proofs.Copying

@@ -1,8 +1,7 @@
 -- Every call keeps copied.
 use Prim.Native.Nat.{ℕ, _≤_, _<_}
-use mathlib.Core.Path.{_≡_, refl, sym, ap, _∙_, subst}
-use mathlib.Core.Logic.{_⊎_, inl, inr, ⊎-elim, ⊎-map, _≢_}
-use mathlib.Core.Bool.{Bool, true, false}
+use mathlib.Core.Path.{_≡_, sym, ap, _∙_, subst}
+use mathlib.Core.Logic.{⊎-map, _≢_}
 use mathlib.Core.List.{List}
 use native.Mathlib.Omega.{arith}
 use lib.Dec.{eqb, ltb, leb}
@@ -10,32 +9,31 @@ use lib.ListN.{set}
 use borrow.Author.Tests.{eqb-true}
 use Rattle.rules.specs.declared.Sizes.{Sizes}
 use Rattle.rules.specs.declared.Directory.{Directory}
-use Rattle.rules.specs.declared.Task.{Task}
 use Rattle.rules.specs.declared.Entry.{Entry}
 use Rattle.rules.specs.declared.ChunkNo.{ChunkNo}
 use Rattle.rules.specs.declared.EntryNo.{EntryNo}
 use Rattle.rules.specs.declared.HandleNo.{HandleNo}
 use Rattle.rules.specs.declared.Decision.{Decision}
-use Rattle.rules.specs.Words.{pick, _and_, _or_, noChunk, usesFunction, scan, idle, toDrain, toCopy, toSwap, toRelease}
+use Rattle.rules.specs.Words.{_and_, _or_, noChunk, usesFunction, scan, idle, toDrain, toCopy, toSwap, toRelease}
 use Rattle.rules.specs.Tables.{Tables, chunk, entryAt, entry, task, putTask, withDirectory}
 use Rattle.rules.specs.Stages
-use Rattle.rules.specs.Rebalance.{Outcome, unusedCount, publishedOn, heldChunk, begins, drains, copies, swapsIn, releases, rebalanceDoes}
-use Rattle.rules.specs.Calls.{Call, fresh, starts, steps, does, calls}
+use Rattle.rules.specs.Rebalance.{Outcome, unusedCount, publishedOn, heldChunk, begins, drains, swapsIn, releases, rebalanceDoes}
+use Rattle.rules.specs.Calls.{Call, starts, steps, does}
 use Rattle.rules.specs.Calls.Call.{start, step, begin, rebalance}
 use Rattle.laws.proofs.Tests.{picked}
 use Rattle.views.proofs.Copies.{clears-is}
 use Rattle.facts.specs.Facts.{Limited, Allowed, Kept}
 use Rattle.facts.specs.Reached.{Reached}
-use Rattle.facts.proofs.Applying.{Applied, applied-by}
+use Rattle.facts.proofs.Applying.{applied-by}
 use Rattle.facts.proofs.Ends.{decides-fine}
 use Rattle.facts.proofs.Swapping
 use Rattle.facts.proofs.Reaching.{calls-does, reached-kept}
-use Rattle.holds.specs.Held.{PublisherLive, Held}
+use Rattle.holds.specs.Held.{Held}
 use Rattle.holds.specs.Unlinked.{UnlinkedNone}
 use Rattle.holds.proofs.Holding.{reached-held}
 use Rattle.holds.proofs.Unlinked.{reached-unlinked}
 use Rattle.simulation.specs.Named.{NamedIn, Copied, CopiedThen}
-use Rattle.simulation.proofs.Acts.{Acts, decides-act}
+use Rattle.simulation.proofs.Acts.{decides-act}
 use Rattle.simulation.proofs.Rows.{RowKept, frame}
 use Rattle.simulation.proofs.Copied.{named-like, copy-names}
 

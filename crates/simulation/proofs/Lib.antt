@@ -5,3 +5,5 @@ pub mod Keeping
 pub mod Moving
 pub mod Living
 pub mod Showing
+pub mod Deciding
+pub mod Simulating

@@ -1,8 +1,8 @@
 -- Every call keeps undeleted-live and old-live.
-use Prim.Native.Nat.{ℕ, _*_, _≤_, _<_}
-use mathlib.Core.Path.{_≡_, refl, sym, ap, _∙_, subst}
+use Prim.Native.Nat.{ℕ, _*_, _<_}
+use mathlib.Core.Path.{_≡_, sym, ap, _∙_}
 use mathlib.Core.Logic.{_⊎_, inl, inr, ⊎-elim, _≢_}
-use mathlib.Core.Bool.{Bool, true, false}
+use mathlib.Core.Bool.{true}
 use mathlib.Core.List.{List}
 use native.Mathlib.Omega.{arith}
 use lib.Dec.{eqb, ltb, leb}
@@ -15,7 +15,7 @@ use Rattle.rules.specs.declared.ChunkNo.{ChunkNo}
 use Rattle.rules.specs.declared.EntryNo.{EntryNo}
 use Rattle.rules.specs.declared.HandleNo.{HandleNo}
 use Rattle.rules.specs.declared.Decision.{Decision}
-use Rattle.rules.specs.Words.{pick, _and_, _or_, NONE, usesFunction, scan, live}
+use Rattle.rules.specs.Words.{_and_, _or_, NONE, usesFunction, scan, live}
 use Rattle.rules.specs.Tables.{Tables, idleTask, emptyEntry, chunkAt, chunk, entryAt, row, task, putTask}
 use Rattle.rules.specs.Walks.{lowestFree}
 use Rattle.rules.specs.Stages
@@ -30,8 +30,8 @@ use Rattle.facts.proofs.Applying.{Applied, applied-by}
 use Rattle.facts.proofs.Ends.{decides-fine}
 use Rattle.facts.proofs.Fresh.{getD-all}
 use Rattle.facts.proofs.Reaching.{calls-does, reached-kept}
-use Rattle.handles.specs.Owned.{Row, NamedUnder, Sourced}
-use Rattle.handles.proofs.Naming.{Passes, put, sourced-back}
+use Rattle.handles.specs.Owned.{NamedUnder, Sourced}
+use Rattle.handles.proofs.Naming.{sourced-back}
 use Rattle.handles.proofs.Free.{free-unnamed, free-unheld}
 use Rattle.handles.proofs.Passing.{decides-pass}
 use Rattle.handles.proofs.Owning.{OwnedBy, put-tasks}

@@ -1,8 +1,7 @@
 -- No call of the rebalance changes which handles the live chunks name, nor names a handle that was not named.
-use Prim.Native.Nat.{ℕ, _≤_, _<_}
+use Prim.Native.Nat.{ℕ, _<_}
 use mathlib.Core.Path.{_≡_, refl, sym, ap, _∙_}
 use mathlib.Core.Logic.{_⊎_, inl, inr, ⊎-elim, _≢_}
-use mathlib.Core.Bool.{Bool, true, false}
 use mathlib.Core.List.{List}
 use native.Mathlib.Nat.{le-refl}
 use native.Mathlib.Omega.{arith}
@@ -15,12 +14,12 @@ use Rattle.rules.specs.declared.Chunk.{Chunk}
 use Rattle.rules.specs.declared.Entry.{Entry}
 use Rattle.rules.specs.declared.ChunkNo.{ChunkNo}
 use Rattle.rules.specs.declared.EntryNo.{EntryNo}
-use Rattle.rules.specs.Words.{pick, noChunk, live, retired, idle, toDrain, toCopy, toSwap, toRelease}
+use Rattle.rules.specs.Words.{noChunk, live, retired, idle, toDrain, toCopy, toSwap, toRelease}
 use Rattle.rules.specs.Tables.{Tables, emptyChunk, chunkAt, chunk, entryAt, withDirectory}
 use Rattle.rules.specs.Walks.{locate}
-use Rattle.rules.specs.Rebalance.{Outcome, unusedCount, publishedOn, heldChunk, frozenOf, withNextChunk, begins, drains, copies, swapsIn, releases, rebalanceDoes}
-use Rattle.rules.specs.Calls.{Call, does}
-use Rattle.rules.specs.Calls.Call.{start, step, begin, rebalance}
+use Rattle.rules.specs.Rebalance.{Outcome, unusedCount, publishedOn, heldChunk, frozenOf, withNextChunk, begins, drains, swapsIn, releases, rebalanceDoes}
+use Rattle.rules.specs.Calls.{does}
+use Rattle.rules.specs.Calls.Call.{rebalance}
 use Rattle.laws.proofs.Tests.{picked}
 use Rattle.views.specs.Copies.{cleared}
 use Rattle.views.proofs.Rows.{chunk-either}

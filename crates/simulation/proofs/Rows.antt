@@ -1,15 +1,15 @@
 -- What a step leaves of the rows' names and of the handles' records, by what it does.
-use Prim.Native.Nat.{ℕ, _+_, _*_, _≤_, _<_}
-use mathlib.Core.Path.{_≡_, refl, sym, ap, _∙_, subst}
-use mathlib.Core.Logic.{_⊎_, inl, inr, ⊎-elim, _≢_}
-use mathlib.Core.Bool.{Bool, true, false}
+use Prim.Native.Nat.{ℕ, _*_, _<_}
+use mathlib.Core.Path.{_≡_, refl, sym, ap, _∙_}
+use mathlib.Core.Logic.{_⊎_, inl, inr, _≢_}
+use mathlib.Core.Bool.{true}
 use mathlib.Core.List.{List}
 use native.Mathlib.Nat.{le-trans}
 use native.Mathlib.Decide.{ℕ-discrete}
 use native.Mathlib.Omega.{arith}
 use lib.Dec.{ltb}
 use lib.ListN.{length, getD, set, length-set}
-use lib.Seq.{getD-set-same, getD-set-other}
+use lib.Seq.{getD-set-other}
 use borrow.Author.Tests.{ltb-true}
 use Rattle.rules.specs.declared.Sizes.{Sizes}
 use Rattle.rules.specs.declared.Task.{Task}
@@ -19,7 +19,7 @@ use Rattle.rules.specs.declared.EntryNo.{EntryNo}
 use Rattle.rules.specs.declared.HandleNo.{HandleNo}
 use Rattle.rules.specs.declared.Write.{Write}
 use Rattle.rules.specs.declared.Write.the-variants as write
-use Rattle.rules.specs.Words.{pick, NONE, entryNo, noHandle, noEntry}
+use Rattle.rules.specs.Words.{NONE, entryNo, noHandle, noEntry}
 use Rattle.rules.specs.Tables.{Tables, emptyEntry, chunk, entryAt, entry, row, task, withTasks}
 use Rattle.rules.specs.Walks.{lowestFree}
 use Rattle.rules.specs.Stages
@@ -27,7 +27,7 @@ use Rattle.laws.proofs.Tests.{picked}
 use Rattle.views.proofs.Rows.{entry-put}
 use Rattle.facts.specs.Facts.{Limited, Waits, Allowed, Kept}
 use Rattle.facts.specs.Simulates.{decides}
-use Rattle.handles.specs.Owned.{Row, NamedUnder, Owned}
+use Rattle.handles.specs.Owned.{Row, NamedUnder}
 use Rattle.handles.proofs.Free.{free-unnamed}
 use Rattle.handles.proofs.Owning.{OwnedBy}
 use Rattle.holds.specs.Marked.{Marked}

@@ -1,10 +1,9 @@
 -- What is present by the names: it is what document 01 says, what looking finds, and one value to a key.
 use Prim.Native.Nat.{ℕ, _≤_, _<_}
 use mathlib.Core.Path.{_≡_, refl, sym, ap, _∙_}
-use mathlib.Core.Logic.{_⊎_, inl, inr, ⊎-elim, _≢_}
-use mathlib.Core.Bool.{Bool, true, false}
-use mathlib.Core.List.{List, List·Memᴰ}
-use mathlib.Core.Option.{Option, none, some, Option·none-ne-some, Option·some-injective}
+use mathlib.Core.Bool.{true}
+use mathlib.Core.List.{List·Memᴰ}
+use mathlib.Core.Option.{Option, some, Option·none-ne-some, Option·some-injective}
 use native.Mathlib.Nat.{le-trans}
 use native.Mathlib.Decide.{decLt}
 use native.Mathlib.Omega.{arith}
@@ -12,12 +11,11 @@ use lib.Dec.{eqb, ltb}
 use lib.ListN.{getD}
 use borrow.Author.Tests.{lt-ltb, eq-eqb, ltb-true, eqb-true}
 use Rattle.rules.specs.declared.Sizes.{Sizes}
-use Rattle.rules.specs.declared.Entry.{Entry}
 use Rattle.rules.specs.declared.ChunkNo.{ChunkNo}
 use Rattle.rules.specs.declared.EntryNo.{EntryNo}
 use Rattle.rules.specs.declared.HandleNo.{HandleNo}
-use Rattle.rules.specs.Words.{pick, _and_, live}
-use Rattle.rules.specs.Tables.{Tables, chunk, entry, entryAt, value}
+use Rattle.rules.specs.Words.{_and_, live}
+use Rattle.rules.specs.Tables.{Tables, chunk, entry, value}
 use Rattle.rules.specs.Walks.{locate, find, linked, undeleted, Present, presentAt}
 use Rattle.laws.proofs.Tests.{picked, both, and-left, and-right}
 use Rattle.views.specs.Views.{Links}
@@ -27,7 +25,7 @@ use Rattle.facts.specs.RangesCover.{Live}
 use Rattle.facts.proofs.Writes.{inside}
 use Rattle.facts.proofs.Covering.{covers, only, rows-one}
 use Rattle.holds.specs.Unlinked.{UnlinkedNone}
-use Rattle.simulation.specs.Named.{NamedIn, LiveNamed, PresentBy}
+use Rattle.simulation.specs.Named.{LiveNamed, PresentBy}
 
 module _ (z : Sizes) (lim : Limited z) (s : Tables) (kept : Kept z s) (un : UnlinkedNone z (s .chunks) (s .entries)) where
   alive : {h k : ℕ} (v : LiveNamed z (s .chunks) (s .entries) h k) → Live z s (v .chunk)

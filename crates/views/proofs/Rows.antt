@@ -1,15 +1,14 @@
 -- A row of a table read after one was written, and how many chunks are of a kind then.
-use Prim.Native.Nat.{ℕ, zero, suc, _+_, _*_, _≤_, _<_}
-use mathlib.Core.Path.{_≡_, refl, sym, ap, _∙_}
+use Prim.Native.Nat.{ℕ, zero, suc, _+_, _*_, _<_}
+use mathlib.Core.Path.{_≡_, refl, ap}
 use mathlib.Core.Logic.{_≢_}
-use mathlib.Core.Bool.{Bool, true, false}
 use mathlib.Core.List.{List, [], _∷_}
 use native.Mathlib.Nat.{not-suc-le-zero, le-of-suc-le-suc}
-use native.Mathlib.Decide.{ℕ-discrete, decLt}
+use native.Mathlib.Decide.{decLt}
 use native.Mathlib.Omega.{arith}
 use lib.Dec.{eqb}
 use lib.ListN.{length, getD, set}
-use lib.Seq.{getD-set-same, getD-set-other, set-out}
+use lib.Seq.{set-out}
 use Rattle.rules.specs.declared.Sizes.{Sizes}
 use Rattle.rules.specs.declared.Chunk.{Chunk}
 use Rattle.rules.specs.declared.Entry.{Entry}
@@ -19,7 +18,7 @@ use Rattle.rules.specs.Words.{pick, chunkNo, entryNo, unused, live}
 use Rattle.rules.specs.Tables.{emptyChunk, emptyEntry, row, chunkAt, entryAt}
 use Rattle.rules.specs.Rebalance.{unusedCount}
 use Rattle.rules.specs.Shape.{liveCount}
-use Rattle.laws.proofs.Tests.{picked, by-test}
+use Rattle.laws.proofs.Tests.{by-test}
 use Rattle.laws.proofs.Lists.{getD-set, row-within, row-block, row-place}
 
 pub chunk-put : (cs : List Chunk) (d : ChunkNo) (x : Chunk) (c : ChunkNo) (P : Chunk → Type 0) → d .0 < length cs → (c ≡ d → P x) → (c ≢ d → P (chunkAt cs c)) → P (chunkAt (set cs (d .0) x) c)
