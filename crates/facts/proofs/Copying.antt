@@ -92,10 +92,10 @@ module _ (z : Sizes) (lim : Limited z) (s : Tables) (kept : Kept z s) (copying :
   pub b-free : (b .0 < z .chunks) × (chunk s b .status ≡ unused)
   b-free = (rw (← (h .chunks-sized)) (b-found .0), b-found .1)
 
-  b-apart : b ≢ a
+  pub b-apart : b ≢ a
   b-apart p = omega (arith, b-found .2, ap (λ (c : ChunkNo). c .0) p)
 
-  not-unused : (c : ChunkNo) → chunk s c .status ≡ unused → old ≢ c
+  pub not-unused : (c : ChunkNo) → chunk s c .status ≡ unused → old ≢ c
   not-unused c e p = never (sym (old-role .1) ∙ ap (λ (c : ChunkNo). chunk s c .status) p ∙ e)
     where
       never : _≡_ {A = ℕ} 1 0 → ⊥

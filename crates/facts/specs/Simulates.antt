@@ -1,14 +1,16 @@
 -- Demand 2: the present keys and values are those of the sequential ordered map, which changes exactly at the deciding steps, and there by that operation.
 use Prim.Native.Nat.{ℕ}
 use mathlib.Core.Path.{_≡_}
-use mathlib.Core.Bool.{Bool, true, false}
+use mathlib.Core.Logic.{_↔_}
+use mathlib.Core.Option.{some}
+use mathlib.Core.Bool.{Bool}
 use mathlib.Core.List.{List, []}
 use lib.Dec.{eqb, ltb}
 use Rattle.rules.specs.declared.Sizes.{Sizes}
 use Rattle.rules.specs.declared.Task.{Task}
 use Rattle.rules.specs.Words.{pick, _and_, _or_}
 use Rattle.rules.specs.Tables.{Tables, task, entry, mark}
-use Rattle.rules.specs.Walks.{presentAt}
+use Rattle.rules.specs.Walks.{Present, presentAt}
 use Rattle.rules.specs.Calls.{Call, fresh, calls}
 use Rattle.rules.specs.Calls.Call.{start, step, begin, rebalance}
 use Rattle.rules.specs.Map.{Pair, Ascends, lookup, sequential}
@@ -32,5 +34,9 @@ pub data Beside (z : Sizes) : Tables → List Pair → Type 0 where
   called : {s : Tables} {m : List Pair} → Beside z s m → (c : Call) → Beside z (calls z s c .tables) (mapThen z s c m)
 
 pub record Simulates (z : Sizes) : Type 0 where
+  -- the map's pairs are the present keys with their values: "A key is present when a linked entry of a live chunk names an undeleted handle under it"
+  pub shows : (s : Tables) (m : List Pair) → Beside z s m → (k v : ℕ) → Present z s k v ↔ (lookup m k ≡ some v)
+  -- the same by looking in the chunk that has the key
   pub present : (s : Tables) (m : List Pair) → Beside z s m → (k : ℕ) → lookup m k ≡ presentAt z s k
+  -- the map stays ordered, no key twice
   pub ascends : (s : Tables) (m : List Pair) → Beside z s m → Ascends 0 m

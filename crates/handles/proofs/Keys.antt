@@ -1,29 +1,26 @@
 -- No handle is named under two keys, nor by two live entries, in every reached table.
-use Prim.Native.Nat.{ℕ, zero, suc, _*_, _≤_, _<_}
+use Prim.Native.Nat.{ℕ, _*_, _<_}
 use mathlib.Core.Path.{_≡_, refl, sym, ap, _∙_}
-use mathlib.Core.Logic.{_≢_}
-use mathlib.Core.List.{List, List·Memᴰ}
+use mathlib.Core.List.{List·Memᴰ}
 use native.Mathlib.Nat.{le-trans}
 use native.Mathlib.Omega.{arith}
-use lib.ListN.{getD, replicate}
+use lib.ListN.{replicate}
 use Rattle.rules.specs.declared.Sizes.{Sizes}
 use Rattle.rules.specs.declared.ChunkNo.{ChunkNo}
 use Rattle.rules.specs.declared.EntryNo.{EntryNo}
 use Rattle.rules.specs.declared.HandleNo.{HandleNo}
 use Rattle.rules.specs.Words.{NONE}
-use Rattle.rules.specs.Tables.{Tables, idleTask, emptyEntry, chunk, entryAt, entry, row, task}
+use Rattle.rules.specs.Tables.{Tables, idleTask, emptyEntry, chunk, entryAt, entry, row}
 use Rattle.rules.specs.Calls.{Call, fresh, calls}
 use Rattle.facts.specs.Facts.{Limited, Kept}
 use Rattle.rules.specs.Walks.{linked}
-use Rattle.views.proofs.Entries.{links-one}
 use Rattle.facts.specs.Reached.{Reached}
-use Rattle.facts.specs.RangesCover.{Live, RangesCover}
+use Rattle.facts.specs.RangesCover.{Live}
 use Rattle.facts.proofs.Writes.{inside}
-use Rattle.facts.proofs.Covering.{ranges-cover}
+use Rattle.facts.proofs.Covering.{rows-one}
 use Rattle.facts.proofs.Fresh.{getD-all}
 use Rattle.facts.proofs.Reaching.{calls-does, reached-kept}
-use Rattle.handles.specs.Owned.{Row, NamedUnder, Owned}
-use Rattle.handles.specs.OneKeyEach.{InUse, OneKeyEach}
+use Rattle.handles.specs.OneKeyEach.{OneKeyEach}
 use Rattle.handles.specs.LiveOnce.{LiveOnce}
 use Rattle.handles.proofs.Owning.{OwnedBy, does-owned}
 
@@ -47,24 +44,12 @@ module _ (z : Sizes) (lim : Limited z) where
   pub one-key-each : OneKeyEach z
   one-key-each = record { one-key = λ s r c d e f x y b q. let k = reached-kept z lim r in reached-owned r .one-key _ _ _ b (record { chunk = c; entry = e; row = record { chunk = x .numbered; entry = le-trans (x .entry) (k .tables .lists c (x .numbered) .row .used) }; names = refl; keyed = refl }) (record { chunk = d; entry = f; row = record { chunk = y .numbered; entry = le-trans (y .entry) (k .tables .lists d (y .numbered) .row .used) }; names = ap (λ (h : HandleNo). h .0) (sym q); keyed = refl }) }
 
-  -- one key lies in one live chunk's range, and is one entry's in its list
+  -- the two entries have one key
   pub live-once : LiveOnce z
-  live-once = record { once = λ s r c d e f lc ld m n b q. named s r c d e f lc ld m n b q }
+  live-once = record { once = λ s r c d e f lc ld m n b q. rows-one z lim s (reached-kept z lim r) c d e f lc ld m n (keys s r c d e f lc ld m n b q) }
     where
-      named : (s : Tables) → Reached z s → (c d : ChunkNo) (e f : EntryNo) → Live z s c → Live z s d → List·Memᴰ e (linked z s c) → List·Memᴰ f (linked z s d) → entry z s c e .handle .0 < z .handles → entry z s c e .handle ≡ entry z s d f .handle → (c ≡ d) × (e ≡ f)
-      named s r c d e f lc ld m n b q = (chunks, links-one z (s .entries) c (chunk s c .used) 0 (chunk s c .head) e f (linked z s c) (k .tables .lists c (lc .numbered) .links) m (rw chunks n) (keys ∙ ap (λ (g : ChunkNo). entry z s g f .key) (sym chunks)))
+      keys : (s : Tables) → Reached z s → (c d : ChunkNo) (e f : EntryNo) → Live z s c → Live z s d → List·Memᴰ e (linked z s c) → List·Memᴰ f (linked z s d) → entry z s c e .handle .0 < z .handles → entry z s c e .handle ≡ entry z s d f .handle → entry z s c e .key ≡ entry z s d f .key
+      keys s r c d e f lc ld m n b q = reached-owned r .one-key (entry z s c e .handle .0) (entry z s c e .key) (entry z s d f .key) b (record { chunk = c; entry = e; row = record { chunk = lc .numbered; entry = used c lc e m }; names = refl; keyed = refl }) (record { chunk = d; entry = f; row = record { chunk = ld .numbered; entry = used d ld f n }; names = ap (λ (h : HandleNo). h .0) (sym q); keyed = refl })
         where
-          k : Kept z s
-          k = reached-kept z lim r
-
           used : (g : ChunkNo) → Live z s g → (x : EntryNo) → List·Memᴰ x (linked z s g) → x .0 < z .entries
-          used g l x o = inside z lim (s .directory) (s .chunks) (s .entries) (k .tables) g (l .numbered) x o
-
-          keys : entry z s c e .key ≡ entry z s d f .key
-          keys = reached-owned r .one-key (entry z s c e .handle .0) (entry z s c e .key) (entry z s d f .key) b (record { chunk = c; entry = e; row = record { chunk = lc .numbered; entry = used c lc e m }; names = refl; keyed = refl }) (record { chunk = d; entry = f; row = record { chunk = ld .numbered; entry = used d ld f n }; names = ap (λ (h : HandleNo). h .0) (sym q); keyed = refl })
-
-          covers : RangesCover z
-          covers = ranges-cover z lim
-
-          chunks : c ≡ d
-          chunks = covers .alone s r (entry z s c e .key) c lc (covers .within s r c lc e m) ∙ sym (covers .alone s r (entry z s c e .key) d ld (rw keys (covers .within s r d ld f n)))
+          used g l x o = inside z lim (s .directory) (s .chunks) (s .entries) (reached-kept z lim r .tables) g (l .numbered) x o

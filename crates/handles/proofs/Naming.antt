@@ -1,12 +1,11 @@
 -- What a change of the entries' table, or of one task's row, leaves of the facts of handles.
-use Prim.Native.Nat.{ℕ, zero, suc, _+_, _*_, _≤_, _<_}
+use Prim.Native.Nat.{ℕ, _*_, _≤_, _<_}
 use mathlib.Core.Path.{_≡_, refl, sym, ap, _∙_, subst}
 use mathlib.Core.Logic.{_⊎_, inl, inr, ⊎-elim, _≢_}
-use mathlib.Core.Bool.{Bool, true, false}
-use mathlib.Core.List.{List, [], _∷_}
-use native.Mathlib.Decide.{ℕ-discrete, decLt}
+use mathlib.Core.List.{List}
+use native.Mathlib.Decide.{ℕ-discrete}
 use native.Mathlib.Omega.{arith}
-use lib.ListN.{length, getD, set}
+use lib.ListN.{length, set}
 use Rattle.rules.specs.declared.Sizes.{Sizes}
 use Rattle.rules.specs.declared.Task.{Task}
 use Rattle.rules.specs.declared.Entry.{Entry}
@@ -14,16 +13,15 @@ use Rattle.rules.specs.declared.ChunkNo.{ChunkNo}
 use Rattle.rules.specs.declared.EntryNo.{EntryNo}
 use Rattle.rules.specs.declared.HandleNo.{HandleNo}
 use Rattle.rules.specs.Words.{NONE}
-use Rattle.rules.specs.Tables.{Tables, idleTask, entryAt, row}
+use Rattle.rules.specs.Tables.{entryAt, row}
 use Rattle.rules.specs.Stages.{withHandle}
-use Rattle.laws.proofs.Lists.{getD-set}
 use Rattle.views.proofs.Rows.{entry-put}
 use Rattle.handles.specs.Owned.{Row, NamedUnder, Unnamed, OneKey, NewOwn, OldKey, Owned, Sourced}
 
 module _ (z : Sizes) where
   -- ---- the entries change
   -- what names a handle in the second table does so in the first
-  sourced-back : (es es′ : List Entry) → Sourced z es es′ → (n i : ℕ) → n < z .handles → NamedUnder z es′ n i → NamedUnder z es n i
+  pub sourced-back : (es es′ : List Entry) → Sourced z es es′ → (n i : ℕ) → n < z .handles → NamedUnder z es′ n i → NamedUnder z es n i
   sourced-back es es′ from n i b v = subst (λ (m : ℕ). NamedUnder z es m i) (v .names) (subst (λ (m : ℕ). NamedUnder z es (entryAt z es′ (v .chunk) (v .entry) .handle .0) m) (v .keyed) (from (v .chunk) (v .entry) (v .row) (rw (v .names) b)))
 
   pub sourced-one-key : (es es′ : List Entry) → Sourced z es es′ → OneKey z es → OneKey z es′

@@ -1,15 +1,14 @@
 -- Every call keeps publishers on live chunks, and off the old one once it is drained.
 use Prim.Native.Nat.{ℕ, zero, suc, _+_, _/_, _≤_, _<_}
-use mathlib.Core.Path.{_≡_, refl, sym, ap, _∙_, subst}
+use mathlib.Core.Path.{_≡_, refl, sym, ap, _∙_}
 use mathlib.Core.Logic.{_⊎_, inl, inr, ⊎-elim, _≢_}
 use mathlib.Core.Bool.{Bool, true, false, false≢true}
 use mathlib.Core.List.{List, [], _∷_}
-use native.Mathlib.Decide.{ℕ-discrete, decLt}
+use native.Mathlib.Decide.{ℕ-discrete}
 use native.Mathlib.Omega.{arith}
 use lib.Dec.{eqb, ltb, leb}
 use lib.ListN.{length, getD, set, take, drop}
-use lib.Seq.{getD-set-same, getD-set-other, set-out}
-use borrow.Author.Tests.{leb-false, eqb-true, eq-eqb, ltb-false}
+use borrow.Author.Tests.{leb-false, eqb-true, eq-eqb}
 use Rattle.rules.specs.declared.Sizes.{Sizes}
 use Rattle.rules.specs.declared.Directory.{Directory}
 use Rattle.rules.specs.declared.Task.{Task}
@@ -17,22 +16,22 @@ use Rattle.rules.specs.declared.Chunk.{Chunk}
 use Rattle.rules.specs.declared.Entry.{Entry}
 use Rattle.rules.specs.declared.ChunkNo.{ChunkNo}
 use Rattle.rules.specs.declared.Decision.{Decision}
-use Rattle.rules.specs.Words.{pick, _and_, _or_, NONE, chunkNo, noChunk, unused, live, new, retired, usesFunction, scan, idle, toDrain, toCopy, toSwap, toRelease}
-use Rattle.rules.specs.Tables.{Tables, idleTask, emptyChunk, emptyEntry, chunkAt, chunk, task, putTask, putChunk, withDirectory, withChunks, withEntries}
+use Rattle.rules.specs.Words.{_and_, _or_, chunkNo, noChunk, unused, live, new, retired, usesFunction, scan, idle, toDrain, toCopy, toSwap, toRelease}
+use Rattle.rules.specs.Tables.{Tables, idleTask, emptyChunk, emptyEntry, chunkAt, chunk, task, putTask, withDirectory, withChunks, withEntries}
 use Rattle.rules.specs.Walks.{locate}
 use Rattle.rules.specs.Stages
-use Rattle.rules.specs.Rebalance.{Outcome, unusedCount, unusedFrom, publishedOn, heldChunk, namingFrom, frozenOf, makes, at, clears, begins, drains, copies, swapsIn, releases, rebalanceDoes, withNextChunk}
+use Rattle.rules.specs.Rebalance.{Outcome, unusedCount, unusedFrom, publishedOn, heldChunk, namingFrom, frozenOf, at, begins, drains, copies, swapsIn, releases, rebalanceDoes, withNextChunk}
 use Rattle.rules.specs.Calls.{Call, fresh, started, starts, steps, does, calls}
 use Rattle.rules.specs.Calls.Call.{start, step, begin, rebalance}
-use Rattle.laws.proofs.Tests.{picked, by-test}
+use Rattle.laws.proofs.Tests.{picked}
 use Rattle.views.specs.Copies.{filled}
+use Rattle.views.proofs.Rows.{chunk-either}
 use Rattle.views.proofs.Copies.{fill-is, clears-is}
-use Rattle.facts.specs.Facts.{Limited, Roles, Rebalancing, Tabled, Tasked, Kept}
+use Rattle.facts.specs.Facts.{Limited, Roles, Rebalancing, Kept}
 use Rattle.facts.specs.Reached.{Reached}
 use Rattle.facts.proofs.Applying.{Applied, applied-by}
 use Rattle.facts.proofs.Ends.{decides-fine}
 use Rattle.facts.proofs.Fresh.{getD-all}
-use Rattle.facts.proofs.Writes.{same-chunk}
 use Rattle.facts.proofs.Swapping.{beforeOld}
 use Rattle.facts.proofs.SwapIn.{swap-by}
 use Rattle.facts.proofs.Copying
@@ -41,14 +40,11 @@ use Rattle.facts.proofs.Reaching.{calls-does, reached-kept}
 use Rattle.handles.proofs.Owning.{put-tasks}
 use Rattle.handles.proofs.Handing.{swap-tasks}
 use Rattle.holds.specs.Held.{PublisherLive, Held}
-use Rattle.holds.proofs.Publishing.{Publishes, decides-publish}
+use Rattle.holds.proofs.Publishing.{decides-publish}
 
 -- a live chunk stays live where what is written to it is
 live-put : (cs : List Chunk) (d : ChunkNo) (x : Chunk) (c : ChunkNo) → (c ≡ d → x .status ≡ live) → chunkAt cs c .status ≡ live → chunkAt (set cs (d .0) x) c .status ≡ live
-live-put cs d x c f l = ⊎-elim (λ (e : c ≡ d). here e) (λ ne. ap (λ (y : Chunk). y .status) (getD-set-other cs (d .0) (c .0) x emptyChunk (λ e. ne (ap chunkNo e))) ∙ l) (same-chunk c d)
-  where
-    here : c ≡ d → chunkAt (set cs (d .0) x) c .status ≡ live
-    here e = elim (decLt (d .0) (length cs)) [ yes b ↦ rw e (ap (λ (y : Chunk). y .status) (getD-set-same cs (d .0) x emptyChunk b) ∙ f e) | no out ↦ rw (set-out cs (d .0) x (omega arith)) l ]
+live-put cs d x c = chunk-either cs d x c (λ y. y .status ≡ live)
 
 -- no publisher on the chunk
 none-published : (ts : List Task) (c : ChunkNo) (n : ℕ) → publishedOn ts c ≡ false → getD ts n idleTask .published ≡ 1 → getD ts n idleTask .chunk ≢ c
@@ -222,16 +218,17 @@ module _ (z : Sizes) (lim : Limited z) (s : Tables) (kept : Kept z s) (held : He
       early : 2 ≤ 0 → ⊥
       early le = omega arith
 
+  -- a live chunk that is not the old one stays live at swap in
+  pub swap-live : (c : ChunkNo) → chunk s c .status ≡ live → c ≢ s .directory .old → chunkAt (swapsIn z s .tables .chunks) c .status ≡ live
+  swap-live c l ne =
+      swap-by z s (λ x. chunkAt (x .chunks) c .status ≡ live) l (λ x. live-put (x .chunks) (beforeOld z s) (withNextChunk (chunk s (beforeOld z s)) (s .directory .new)) c (λ e. ap (λ (c : ChunkNo). chunk s c .status) (sym e) ∙ l))
+      (λ x. live-put (x .chunks) (s .directory .new) _ c (λ _. refl)) (λ x. live-put (x .chunks) (s .directory .second) _ c (λ _. refl)) (λ x. live-put (x .chunks) (s .directory .old) _ c (λ e. absurd (ne e))) (λ x d e. e)
+
   swap-held : s .directory .stage ≡ toSwap → Held z (swapsIn z s .tables)
-  swap-held stage = left (swapsIn z s .tables) (swap-tasks z s .0) (λ t p _ n _. record { numbered = p .numbered; isLive = last (t .chunk) (p .isLive) (p .drains drained); drains = λ _. p .drains drained })
+  swap-held stage = left (swapsIn z s .tables) (swap-tasks z s .0) (λ t p _ n _. record { numbered = p .numbered; isLive = swap-live (t .chunk) (p .isLive) (p .drains drained); drains = λ _. p .drains drained })
     where
       drained : toCopy ≤ s .directory .stage
       drained = omega arith
-
-      last : (c : ChunkNo) → chunk s c .status ≡ live → c ≢ s .directory .old → chunkAt (swapsIn z s .tables .chunks) c .status ≡ live
-      last c l ne =
-          swap-by z s (λ x. chunkAt (x .chunks) c .status ≡ live) l (λ x. live-put (x .chunks) (beforeOld z s) (withNextChunk (chunk s (beforeOld z s)) (s .directory .new)) c (λ e. ap (λ (c : ChunkNo). chunk s c .status) (sym e) ∙ l))
-          (λ x. live-put (x .chunks) (s .directory .new) _ c (λ _. refl)) (λ x. live-put (x .chunks) (s .directory .second) _ c (λ _. refl)) (λ x. live-put (x .chunks) (s .directory .old) _ c (λ e. absurd (ne e))) (λ x d e. e)
 
   pub does-held : (c : Call) → Held z (does z s c .tables)
   unfolding does rebalanceDoes

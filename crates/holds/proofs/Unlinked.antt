@@ -1,16 +1,15 @@
 -- Every call keeps unlinked-none.
 use Prim.Native.Nat.{ℕ, zero, suc, _+_, _*_, _/_, _≤_, _<_}
-use mathlib.Core.Path.{_≡_, refl, sym, ap, _∙_, subst}
-use mathlib.Core.Logic.{_⊎_, inl, inr, ⊎-elim, _≢_}
-use mathlib.Core.Bool.{Bool, true, false}
-use mathlib.Core.List.{List, [], _∷_, List·Memᴰ, List·Memᴰ·head, List·Memᴰ·tail, Memᴰ·cast}
-use native.Mathlib.Nat.{le-trans, le-refl, not-suc-le-zero}
+use mathlib.Core.Path.{_≡_, refl, sym, ap, _∙_}
+use mathlib.Core.Logic.{⊎-elim, _≢_}
+use mathlib.Core.Bool.{true}
+use mathlib.Core.List.{List, _∷_, List·Memᴰ, List·Memᴰ·head, List·Memᴰ·tail, Memᴰ·cast}
+use native.Mathlib.Nat.{le-trans, le-refl}
 use native.Mathlib.Decide.{ℕ-discrete, decLt}
 use native.Mathlib.Omega.{arith}
 use lib.Dec.{eqb, ltb, leb}
-use lib.ListN.{length, getD, set, take, drop, replicate, length-set}
-use lib.Seq.{getD-set-same, getD-set-other, set-out}
-use borrow.Author.Tests.{leb-false, eqb-true, ltb-true, lt-ltb}
+use lib.ListN.{length, getD, set, take, drop, length-set}
+use borrow.Author.Tests.{leb-false, eqb-true, ltb-true}
 use Rattle.rules.specs.declared.Sizes.{Sizes}
 use Rattle.rules.specs.declared.Directory.{Directory}
 use Rattle.rules.specs.declared.Task.{Task}
@@ -21,18 +20,18 @@ use Rattle.rules.specs.declared.EntryNo.{EntryNo}
 use Rattle.rules.specs.declared.Decision.{Decision}
 use Rattle.rules.specs.declared.Write.{Write}
 use Rattle.rules.specs.declared.Write.the-variants as write
-use Rattle.rules.specs.Words.{pick, _and_, _or_, NONE, chunkNo, entryNo, noChunk, noHandle, noEntry, unused, retired, usesFunction, scan, idle, toDrain, toCopy, toSwap, toRelease}
-use Rattle.rules.specs.Tables.{Tables, idleTask, emptyChunk, emptyEntry, chunkAt, chunk, entryAt, entry, row, task, putTask, putChunk, withTasks, withDirectory, withChunks, withEntries}
+use Rattle.rules.specs.Words.{_and_, _or_, NONE, entryNo, noChunk, noHandle, noEntry, unused, usesFunction, scan, idle, toDrain, toCopy, toSwap, toRelease}
+use Rattle.rules.specs.Tables.{Tables, emptyChunk, emptyEntry, chunkAt, chunk, entryAt, entry, row, task, putTask, putChunk, withTasks, withDirectory, withChunks, withEntries}
 use Rattle.rules.specs.Walks.{locate, linked, listFrom}
 use Rattle.rules.specs.Stages
-use Rattle.rules.specs.Rebalance.{Outcome, unusedCount, unusedFrom, publishedOn, heldChunk, namingFrom, frozenOf, makes, at, clears, begins, drains, copies, swapsIn, releases, rebalanceDoes}
+use Rattle.rules.specs.Rebalance.{Outcome, unusedCount, unusedFrom, publishedOn, heldChunk, namingFrom, frozenOf, makes, at, begins, copies, swapsIn, releases, rebalanceDoes}
 use Rattle.rules.specs.Calls.{Call, fresh, started, starts, steps, does, calls}
 use Rattle.rules.specs.Calls.Call.{start, step, begin, rebalance}
 use Rattle.laws.proofs.Tests.{picked, by-test}
 use Rattle.views.specs.Copies.{filled, cleared, upFrom, Rising}
-use Rattle.views.proofs.Rows.{entry-put}
+use Rattle.views.proofs.Rows.{chunk-either, entry-put}
 use Rattle.views.proofs.Copies.{fill-is, clears-is, cleared-other, cleared-here}
-use Rattle.facts.specs.Facts.{Limited, listed, Tabled, Waits, Allowed, Kept}
+use Rattle.facts.specs.Facts.{Limited, listed, Waits, Allowed, Kept}
 use Rattle.facts.specs.Reached.{Reached}
 use Rattle.facts.proofs.Applying.{Applied, applied-by}
 use Rattle.facts.proofs.Ends.{decides-fine}
@@ -58,10 +57,7 @@ list-same z es es′ c same (suc fuel) e = by-test (ltb (e .0) (z .entries)) (λ
 
 -- a head stays where what is written has it
 head-put : (cs : List Chunk) (d : ChunkNo) (x : Chunk) (c : ChunkNo) → (c ≡ d → x .head ≡ chunkAt cs c .head) → chunkAt (set cs (d .0) x) c .head ≡ chunkAt cs c .head
-head-put cs d x c f = ⊎-elim (λ (e : c ≡ d). here e) (λ ne. ap (λ (y : Chunk). y .head) (getD-set-other cs (d .0) (c .0) x emptyChunk (λ e. ne (ap chunkNo e)))) (same-chunk c d)
-  where
-    here : c ≡ d → chunkAt (set cs (d .0) x) c .head ≡ chunkAt cs c .head
-    here e = elim (decLt (d .0) (length cs)) [ yes b ↦ rw e (ap (λ (y : Chunk). y .head) (getD-set-same cs (d .0) x emptyChunk b) ∙ f e ∙ ap (λ (c : ChunkNo). chunkAt cs c .head) e) | no out ↦ rw (set-out cs (d .0) x (omega arith)) refl ]
+head-put cs d x c f = chunk-either cs d x c (λ y. y .head ≡ chunkAt cs c .head) f refl
 
 up-from-in : (n m : ℕ) (e : EntryNo) → n ≤ e .0 → e .0 < n + m → List·Memᴰ e (upFrom n m)
 unfolding upFrom
