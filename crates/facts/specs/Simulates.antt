@@ -3,12 +3,14 @@ use Prim.Native.Nat.{ℕ}
 use mathlib.Core.Path.{_≡_}
 use mathlib.Core.Logic.{_↔_}
 use mathlib.Core.Option.{some}
-use mathlib.Core.Bool.{Bool}
+use mathlib.Core.Bool.{Bool, true}
 use mathlib.Core.List.{List, []}
 use lib.Dec.{eqb, ltb}
 use Rattle.rules.specs.declared.Sizes.{Sizes}
 use Rattle.rules.specs.declared.Task.{Task}
-use Rattle.rules.specs.Words.{pick, _and_, _or_}
+use Rattle.rules.specs.declared.Report.{Report}
+use Rattle.rules.specs.declared.Report.the-variants as report
+use Rattle.rules.specs.Words.{pick, _and_, _or_, put, upsert}
 use Rattle.rules.specs.Tables.{Tables, task, entry, mark}
 use Rattle.rules.specs.Walks.{Present, presentAt}
 use Rattle.rules.specs.Calls.{Call, fresh, calls}
@@ -33,6 +35,10 @@ pub data Beside (z : Sizes) : Tables → List Pair → Type 0 where
   started : Beside z (fresh z) []
   called : {s : Tables} {m : List Pair} → Beside z s m → (c : Call) → Beside z (calls z s c .tables) (mapThen z s c m)
 
+-- what an operation answers where it changes the map
+abbrev pub changeAnswer : ℕ → Report
+changeAnswer op = pick (eqb op put or eqb op upsert) report.Done report.True
+
 pub record Simulates (z : Sizes) : Type 0 where
   -- the map's pairs are the present keys with their values: "A key is present when a linked entry of a live chunk names an undeleted handle under it"
   pub shows : (s : Tables) (m : List Pair) → Beside z s m → (k v : ℕ) → Present z s k v ↔ (lookup m k ≡ some v)
@@ -40,3 +46,6 @@ pub record Simulates (z : Sizes) : Type 0 where
   pub present : (s : Tables) (m : List Pair) → Beside z s m → (k : ℕ) → lookup m k ≡ presentAt z s k
   -- the map stays ordered, no key twice
   pub ascends : (s : Tables) (m : List Pair) → Beside z s m → Ascends 0 m
+  -- at a deciding step the sequential map answers as to a change: never false, absent or a value, the answers that change nothing
+  pub changes : (s : Tables) (m : List Pair) → Beside z s m → (n : ℕ) → decides z s (task s n) ≡ true →
+      sequential m (task s n .operation) (task s n .key) (task s n .argument) (task s n .function) .answer ≡ changeAnswer (task s n .operation)

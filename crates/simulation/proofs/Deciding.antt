@@ -1,7 +1,7 @@
 -- A step leaves what is present at every key, but for a deciding step at its own key, and there it does what the operation does.
 use Prim.Native.Nat.{ℕ, _≤_, _<_}
 use mathlib.Core.Path.{_≡_, refl, sym, ap, _∙_}
-use mathlib.Core.Logic.{_⊎_, inl, inr, _≢_}
+use mathlib.Core.Logic.{_⊎_, inl, inr, ⊎-elim, _≢_}
 use mathlib.Core.Bool.{true, false, false≢true}
 use mathlib.Core.List.{List}
 use mathlib.Core.Option.{Option, none, some, Option·none-ne-some, Option·some-injective}
@@ -18,13 +18,13 @@ use Rattle.rules.specs.declared.Write.the-variants as write
 use Rattle.rules.specs.Words.{pick, _and_, _or_, live}
 use Rattle.rules.specs.Tables.{Tables, chunk, entry, value, task}
 use Rattle.rules.specs.Stages
-use Rattle.rules.specs.Map.{Pair, Ascends, lookup, insert, delete, Effect, sequential}
+use Rattle.rules.specs.Map.{Pair, Ascends, lookup, insert, delete, Effect, effect, sequential}
 use Rattle.map.proofs.Laws.{lookup-insert, lookup-delete}
 use Rattle.map.proofs.Sequential.{on-absent, on-present, sequential-other}
 use Rattle.laws.proofs.Tests.{picked}
 use Rattle.views.proofs.Rows.{entry-put}
 use Rattle.facts.specs.Facts.{Limited, EntryHeld, Kept}
-use Rattle.facts.specs.Simulates.{decides}
+use Rattle.facts.specs.Simulates.{decides, changeAnswer}
 use Rattle.handles.proofs.Owning.{OwnedBy}
 use Rattle.holds.specs.Held.{Held}
 use Rattle.holds.specs.Marked.{Marked}
@@ -118,12 +118,12 @@ module _ (z : Sizes) (lim : Limited z) (s : Tables) (kept : Kept z s) (own : Own
   old-present b q = record { handle = t .old .0; inside = b; named = lively .old-live n b q; undeleted = q; valued = refl }
 
   module _ (m : List Pair) (sim : Sim z s m) (ascends : Ascends 0 m) where
-    abbrev pub then-map : List Pair
-    then-map = sequential m (t .operation) (t .key) (t .argument) (t .function) .map
+    abbrev pub then-done : Effect
+    then-done = sequential m (t .operation) (t .key) (t .argument) (t .function)
 
     -- the operation puts a value there, or takes the key out, and so do the tables
     abbrev pub Decided : Write → Type 0
-    Decided w = ((v : ℕ) × (then-map ≡ insert m (t .key) v) × PresentBy z (Rows.after z lim s kept ts w) (t .key) v) ⊎ ((then-map ≡ delete m (t .key)) × ((v : ℕ) → PresentBy z (Rows.after z lim s kept ts w) (t .key) v → ⊥))
+    Decided w = ((v : ℕ) × (then-done ≡ effect (changeAnswer (t .operation)) (insert m (t .key) v)) × PresentBy z (Rows.after z lim s kept ts w) (t .key) v) ⊎ ((then-done ≡ effect (changeAnswer (t .operation)) (delete m (t .key))) × ((v : ℕ) → PresentBy z (Rows.after z lim s kept ts w) (t .key) v → ⊥))
 
     at-present : t .old .0 < z .handles → getD (s .marks) (t .old .0) 0 ≡ 0 → lookup m (t .key) ≡ some (value s (t .old))
     at-present b q = sim (t .key) (value s (t .old)) .1 (old-present b q)
@@ -135,11 +135,11 @@ module _ (z : Sizes) (lim : Limited z) (s : Tables) (kept : Kept z s) (own : Own
     decided (Acts.stores v b q i u) d =
         inl (
           v,
-          ap (λ (y : Effect). y .map) (on-present m (t .operation) (t .key) (t .argument) (t .function) (value s (t .old)) (at-present b q)) ∙ i m,
+          on-present m (t .operation) (t .key) (t .argument) (t .function) (value s (t .old)) (at-present b q) ∙ i m,
           record { handle = t .old .0; inside = b; named = lively .old-live n b q; undeleted = q; valued = getD-set-same (s .values) (t .old .0) v 0 (rw (kept .values-sized) b) },
         )
     decided (Acts.deletes b q i u) d =
-        inr (ap (λ (y : Effect). y .map) (on-present m (t .operation) (t .key) (t .argument) (t .function) (value s (t .old)) (at-present b q)) ∙ i m, gone)
+        inr (on-present m (t .operation) (t .key) (t .argument) (t .function) (value s (t .old)) (at-present b q) ∙ i m, gone)
       where
         gone : (v : ℕ) → PresentBy z (Rows.after z lim s kept ts (write.Delete (t .old))) (t .key) v → ⊥
         gone v p = one (sym (getD-set-same (s .marks) (t .old .0) 1 0 (rw (kept .marks-sized) b)) ∙ ap (λ (h : ℕ). getD (set (s .marks) (t .old .0) 1) h 0) (named-one z lim s kept un b (p .inside) (lively .old-live n b q) (p .named)) ∙ p .undeleted)
@@ -147,19 +147,19 @@ module _ (z : Sizes) (lim : Limited z) (s : Tables) (kept : Kept z s) (own : Own
             one : _≡_ {A = ℕ} 1 0 → ⊥
             one e = omega arith
     decided (Acts.names w b q le i u) d =
-        inl (t .argument, ap (λ (y : Effect). y .map) (on-absent m (t .operation) (t .key) (t .argument) (t .function) (is-none (lookup m (t .key)) (λ v e. absent w v (sim (t .key) v .0 e)))) ∙ i m, named-now w b q le)
+        inl (t .argument, on-absent m (t .operation) (t .key) (t .argument) (t .function) (is-none (lookup m (t .key)) (λ v e. absent w v (sim (t .key) v .0 e))) ∙ i m, named-now w b q le)
     decided (Acts.drops w u) d = absurd (false≢true (sym u ∙ d))
 
-    pub step-sim : Kept z s′ → UnlinkedNone z (s′ .chunks) (s′ .entries) → Sim z s′ (pick (decides z s t) then-map m)
+    pub step-sim : Kept z s′ → UnlinkedNone z (s′ .chunks) (s′ .entries) → Sim z s′ (pick (decides z s t) (then-done .map) m)
     step-sim kept′ un′ = picked (Sim z s′) (decides z s t) (λ d. by (decided (acts z lim s kept n) d)) (λ d k v. let far : decides z s t ≡ true → k ≢ t .key = λ u. absurd (false≢true (sym d ∙ u)) in (λ e. on k v far (sim k v .0 e), λ p. sim k v .1 (back k v far p)))
       where
-        elsewhere : (k v : ℕ) → k ≢ t .key → (lookup then-map k ≡ some v → PresentBy z s′ k v) × (PresentBy z s′ k v → lookup then-map k ≡ some v)
+        elsewhere : (k v : ℕ) → k ≢ t .key → (lookup (then-done .map) k ≡ some v → PresentBy z s′ k v) × (PresentBy z s′ k v → lookup (then-done .map) k ≡ some v)
         elsewhere k v ne = rw (sequential-other m (t .operation) (t .key) (t .argument) (t .function) k ne) (λ e. on k v (λ _. ne) (sim k v .0 e), λ p. sim k v .1 (back k v (λ _. ne) p))
 
         Here : List Pair → ℕ → Type 0
         Here l v = (lookup l (t .key) ≡ some v → PresentBy z s′ (t .key) v) × (PresentBy z s′ (t .key) v → lookup l (t .key) ≡ some v)
 
-        everywhere : ((v : ℕ) → Here then-map v) → Sim z s′ then-map
+        everywhere : ((v : ℕ) → Here (then-done .map) v) → Sim z s′ (then-done .map)
         everywhere here k v = elim (ℕ-discrete k (t .key)) [ yes e ↦ rw e (here v) | no ne ↦ elsewhere k v ne ]
 
         put-in : (w : ℕ) → PresentBy z s′ (t .key) w → (v : ℕ) → Here (insert m (t .key) w) v
@@ -168,6 +168,9 @@ module _ (z : Sizes) (lim : Limited z) (s : Tables) (kept : Kept z s) (own : Own
         taken-out : ((v : ℕ) → PresentBy z s′ (t .key) v → ⊥) → (v : ℕ) → Here (delete m (t .key)) v
         taken-out gone v = rw (lookup-delete 0 (t .key) m ascends) (λ e. absurd (Option·none-ne-some _ e), λ p. absurd (gone v p))
 
-        by : Decided (x .write) → Sim z s′ then-map
-        by (inl d) = everywhere (λ v. rw (d .1) (put-in (d .0) (d .2) v))
-        by (inr d) = everywhere (λ v. rw (d .0) (taken-out (d .1) v))
+        by : Decided (x .write) → Sim z s′ (then-done .map)
+        by (inl d) = everywhere (λ v. rw (ap (λ (y : Effect). y .map) (d .1)) (put-in (d .0) (d .2) v))
+        by (inr d) = everywhere (λ v. rw (ap (λ (y : Effect). y .map) (d .0)) (taken-out (d .1) v))
+
+    pub step-changes : decides z s t ≡ true → then-done .answer ≡ changeAnswer (t .operation)
+    step-changes d = ⊎-elim (λ c. ap (λ (y : Effect). y .answer) (c .1)) (λ c. ap (λ (y : Effect). y .answer) (c .0)) (decided (acts z lim s kept n) d)

@@ -18,7 +18,7 @@ use Rattle.rules.specs.Words.{_and_, _or_, noChunk, usesFunction, scan, idle, t
 use Rattle.rules.specs.Tables.{Tables, chunk, entryAt, entry, task, putTask, withDirectory}
 use Rattle.rules.specs.Stages
 use Rattle.rules.specs.Rebalance.{Outcome, unusedCount, publishedOn, heldChunk, begins, drains, swapsIn, releases, rebalanceDoes}
-use Rattle.rules.specs.Calls.{Call, starts, steps, does}
+use Rattle.rules.specs.Calls.{Call, starts, steps, does, calls}
 use Rattle.rules.specs.Calls.Call.{start, step, begin, rebalance}
 use Rattle.laws.proofs.Tests.{picked}
 use Rattle.views.proofs.Copies.{clears-is}
@@ -154,9 +154,12 @@ module _ (z : Sizes) (lim : Limited z) (s : Tables) (kept : Kept z s) (held : He
       Q f = CopiedIn (f z s .tables)
 
 module _ (z : Sizes) (lim : Limited z) where
+  call-copied : (s : Tables) → Kept z s → Held z s → UnlinkedNone z (s .chunks) (s .entries) → CopiedThen z (s .directory) (s .entries) → (c : Call) → CopiedThen z (calls z s c .tables .directory) (calls z s c .tables .entries)
+  call-copied s kept held un copied c = rw (calls-does z lim s kept c) (does-copied z lim s kept held un copied c)
+
   pub reached-copied : {s : Tables} → Reached z s → CopiedThen z (s .directory) (s .entries)
   reached-copied Reached.started = λ e. absurd (early e)
     where
       early : _≡_ {A = ℕ} 0 3 → ⊥
       early e = omega arith
-  reached-copied (Reached.called {s = s′} r c) = rw (calls-does z lim s′ (reached-kept z lim r) c) (does-copied z lim s′ (reached-kept z lim r) (reached-held z lim r) (reached-unlinked z lim r) (reached-copied r) c)
+  reached-copied (Reached.called {s = s₀} r c) = call-copied s₀ (reached-kept z lim r) (reached-held z lim r) (reached-unlinked z lim r) (reached-copied r) c

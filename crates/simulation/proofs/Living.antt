@@ -203,6 +203,9 @@ module _ (z : Sizes) (lim : Limited z) where
         old-live = λ n i. absurd (none _ i (ap (λ (t : Task). t .old .0) (getD-all (z .tasks) n idleTask)));
       }
 
+  call-lively : (s : Tables) → Kept z s → Lively z s → OwnedBy z s → Held z s → Marked z s → UnlinkedNone z (s .chunks) (s .entries) → CopiedThen z (s .directory) (s .entries) → (c : Call) → Lively z (calls z s c .tables)
+  call-lively s kept lively own held marked un copied c = rw (calls-does z lim s kept c) (does-lively z lim s kept lively own held marked un copied c)
+
   pub reached-lively : {s : Tables} → Reached z s → Lively z s
   reached-lively Reached.started = fresh-lively
-  reached-lively (Reached.called {s = s₀} r c) = rw (calls-does z lim s₀ (reached-kept z lim r) c) (does-lively z lim s₀ (reached-kept z lim r) (reached-lively r) (reached-owned z lim r) (reached-held z lim r) (reached-marked z lim r) (reached-unlinked z lim r) (reached-copied z lim r) c)
+  reached-lively (Reached.called {s = s₀} r c) = call-lively s₀ (reached-kept z lim r) (reached-lively r) (reached-owned z lim r) (reached-held z lim r) (reached-marked z lim r) (reached-unlinked z lim r) (reached-copied z lim r) c

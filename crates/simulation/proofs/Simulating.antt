@@ -1,5 +1,6 @@
 -- The present keys and values are those of the sequential map, after every call.
 use Prim.Native.Nat.{ℕ, _*_}
+use mathlib.Core.Bool.{true}
 use mathlib.Core.Path.{_≡_, refl, sym, ap}
 use mathlib.Core.List.{List, []}
 use mathlib.Core.Option.{Option, none, some, Option·none-ne-some}
@@ -20,7 +21,7 @@ use Rattle.map.proofs.Sequential.{sequential-ascends}
 use Rattle.laws.proofs.Tests.{picked}
 use Rattle.facts.specs.Facts.{Limited, Kept}
 use Rattle.facts.specs.Reached.{Reached}
-use Rattle.facts.specs.Simulates.{decides, mapThen, Beside, Simulates}
+use Rattle.facts.specs.Simulates.{decides, mapThen, Beside, changeAnswer, Simulates}
 use Rattle.facts.proofs.Fresh.{getD-all}
 use Rattle.facts.proofs.Reaching.{does-kept, calls-does, reached-kept}
 use Rattle.handles.proofs.Handing.{rebalance-tasks, begin-tasks}
@@ -35,7 +36,7 @@ use Rattle.simulation.proofs.Keeping.{reached-copied}
 use Rattle.simulation.proofs.Moving.{begin-moves, rebalance-moves}
 use Rattle.simulation.proofs.Living.{reached-lively}
 use Rattle.simulation.proofs.Showing.{present-to, present-from, looked-up, shown-at}
-use Rattle.simulation.proofs.Deciding.{Sim, step-sim}
+use Rattle.simulation.proofs.Deciding.{Sim, step-sim, step-changes}
 
 -- tables whose live chunks name the same, with the same handles' records
 moved-sim : (z : Sizes) (s x : Tables) (m : List Pair) → SameLive z s x → x .values ≡ s .values → x .marks ≡ s .marks → Sim z s m → Sim z x m
@@ -97,6 +98,9 @@ module _ (z : Sizes) (lim : Limited z) where
     call-ascends (begin k) = ascends
     call-ascends rebalance = ascends
 
+    call-changes : (n : ℕ) → decides z s (task s n) ≡ true → sequential m (task s n .operation) (task s n .key) (task s n .argument) (task s n .function) .answer ≡ changeAnswer (task s n .operation)
+    call-changes n = step-changes z lim s kept (reached-owned z lim r) (reached-held z lim r) (reached-marked z lim r) (reached-unlinked z lim r) (reached-lively z lim r) n m sim ascends
+
   -- ---- all calls from fresh
   fresh-sim : Sim z (fresh z) []
   unfolding lookup
@@ -123,6 +127,7 @@ module _ (z : Sizes) (lim : Limited z) where
         shows = λ s m b k v. (λ p. beside-holds b .0 k v .1 (present-to z lim s (kept-of b) (un-of b) p), λ e. present-from z lim s (kept-of b) (un-of b) (beside-holds b .0 k v .0 e));
         present = λ s m b k. same-option (lookup m k) (presentAt z s k) (λ v e. shown-at z lim s (kept-of b) (un-of b) k v (beside-holds b .0 k v .0 e)) (λ v e. beside-holds b .0 k v .1 (looked-up z lim s (kept-of b) (un-of b) k v e));
         ascends = λ s m b. beside-holds b .1;
+        changes = λ s m b. call-changes s (beside-reached b) m (beside-holds b .0) (beside-holds b .1);
       }
     where
       kept-of : {s : Tables} {m : List Pair} → Beside z s m → Kept z s
