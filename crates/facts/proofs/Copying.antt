@@ -39,13 +39,13 @@ module _ (z : Sizes) (lim : Limited z) (s : Tables) (kept : Kept z s) (copying :
   q : Rebalancing z (s .directory) (s .chunks)
   q = h .rebalancing
 
-  base : Based z (s .directory .first) (s .chunks) (s .entries)
+  pub base : Based z (s .directory .first) (s .chunks) (s .entries)
   base = based-of z (s .directory) (s .chunks) (s .entries) h
 
   abbrev old : ChunkNo
   old = s .directory .old
 
-  old-in : old .0 < z .chunks
+  pub old-in : old .0 < z .chunks
   old-in = q .old (omega arith)
 
   old-role : (chunk s old .frozen ≡ 1) × (chunk s old .status ≡ live)
@@ -55,19 +55,19 @@ module _ (z : Sizes) (lim : Limited z) (s : Tables) (kept : Kept z s) (copying :
   abbrev l : List Entry
   l = namingFrom z (s .entries) old (z .entries) (chunk s old .head)
 
-  links : Links z (s .entries) old (chunk s old .used) 0 (chunk s old .head) (listed z (s .chunks) (s .entries) old)
+  pub links : Links z (s .entries) old (chunk s old .used) 0 (chunk s old .head) (listed z (s .chunks) (s .entries) old)
   links = h .lists old old-in .links
 
-  small : chunk s old .used ≤ z .entries
+  pub small : chunk s old .used ≤ z .entries
   small = h .lists old old-in .row .used
 
-  l-rising : Rising 0 l
+  pub l-rising : Rising 0 l
   l-rising = naming-rising z (s .entries) old (chunk s old .used) small (lim .entries) (z .entries) 0 (chunk s old .head) (listed z (s .chunks) (s .entries) old) links
 
-  l-short : length l ≤ z .entries
+  pub l-short : length l ≤ z .entries
   l-short = le-trans (naming-length z (s .entries) old (chunk s old .used) small (lim .entries) (z .entries) 0 (chunk s old .head) (listed z (s .chunks) (s .entries) old) links) (le-trans (links-length z (s .entries) old (chunk s old .used) 0 (chunk s old .head) (listed z (s .chunks) (s .entries) old) links) small)
 
-  l-handles : Every (λ x. numbers (z .handles) (x .handle .0) ≡ true) l
+  pub l-handles : Every (λ x. numbers (z .handles) (x .handle .0) ≡ true) l
   l-handles = naming-every z (s .entries) old (chunk s old .used) small (lim .entries) (λ x. numbers (z .handles) (x .handle .0) ≡ true) (z .entries) 0 (chunk s old .head) (listed z (s .chunks) (s .entries) old) links (λ x m b. number-in _ _ b)
 
   l-range : Every (λ x. InRange z (s .chunks) old (x .key)) l
@@ -83,19 +83,19 @@ module _ (z : Sizes) (lim : Limited z) (s : Tables) (kept : Kept z s) (copying :
   room : 2 ≤ unusedCount (s .chunks)
   room = q .room (omega arith) (omega arith)
 
-  a-free : (a .0 < z .chunks) × (chunk s a .status ≡ unused)
+  pub a-free : (a .0 < z .chunks) × (chunk s a .status ≡ unused)
   a-free = (rw (← (h .chunks-sized)) (unused-first (s .chunks) (le-trans (omega arith) room) .0), unused-first (s .chunks) (le-trans (omega arith) room) .1)
 
   b-found : (b .0 < length (s .chunks)) × (chunk s b .status ≡ unused) × (a .0 + 1 ≤ b .0)
   b-found = unused-next (s .chunks) (a .0 + 1) (omega (arith, room, unused-first (s .chunks) (le-trans (omega arith) room) .2))
 
-  b-free : (b .0 < z .chunks) × (chunk s b .status ≡ unused)
+  pub b-free : (b .0 < z .chunks) × (chunk s b .status ≡ unused)
   b-free = (rw (← (h .chunks-sized)) (b-found .0), b-found .1)
 
-  b-apart : b ≢ a
+  pub b-apart : b ≢ a
   b-apart p = omega (arith, b-found .2, ap (λ (c : ChunkNo). c .0) p)
 
-  not-unused : (c : ChunkNo) → chunk s c .status ≡ unused → old ≢ c
+  pub not-unused : (c : ChunkNo) → chunk s c .status ≡ unused → old ≢ c
   not-unused c e p = never (sym (old-role .1) ∙ ap (λ (c : ChunkNo). chunk s c .status) p ∙ e)
     where
       never : _≡_ {A = ℕ} 1 0 → ⊥
@@ -205,7 +205,7 @@ module _ (z : Sizes) (lim : Limited z) (s : Tables) (kept : Kept z s) (copying :
     abbrev least : ℕ
     least = getD l half emptyEntry .key
 
-    inner : half < length l
+    pub inner : half < length l
     inner = omega (arith, lim .two)
 
     abbrev l₁ : List Entry
@@ -214,13 +214,13 @@ module _ (z : Sizes) (lim : Limited z) (s : Tables) (kept : Kept z s) (copying :
     abbrev l₂ : List Entry
     l₂ = drop half l
 
-    l₁-short : length l₁ ≤ z .entries
+    pub l₁-short : length l₁ ≤ z .entries
     l₁-short = rw length-take (le-trans (min-le-left half (length l)) (le-trans (omega (arith, inner)) l-short))
 
-    l₂-short : length l₂ ≤ z .entries
+    pub l₂-short : length l₂ ≤ z .entries
     l₂-short = rw length-drop (omega (arith, l-short))
 
-    l₂-rising : Rising 0 l₂
+    pub l₂-rising : Rising 0 l₂
     l₂-rising = rising-from least 0 l₂ (rising-drop 0 half l inner l-rising) (λ x m. omega arith)
 
     abbrev cs₁ : List Chunk
@@ -235,16 +235,16 @@ module _ (z : Sizes) (lim : Limited z) (s : Tables) (kept : Kept z s) (copying :
     abbrev es₂ : List Entry
     es₂ = filled z b 0 l₂ es₁
 
-    h₁ : Every (λ x. numbers (z .handles) (x .handle .0) ≡ true) l₁
+    pub h₁ : Every (λ x. numbers (z .handles) (x .handle .0) ≡ true) l₁
     h₁ = every-take (λ x. numbers (z .handles) (x .handle .0) ≡ true) half l l-handles
 
-    h₂ : Every (λ x. numbers (z .handles) (x .handle .0) ≡ true) l₂
+    pub h₂ : Every (λ x. numbers (z .handles) (x .handle .0) ≡ true) l₂
     h₂ = every-drop (λ x. numbers (z .handles) (x .handle .0) ≡ true) half l l-handles
 
-    r₁ : Rising 0 l₁
+    pub r₁ : Rising 0 l₁
     r₁ = rising-take 0 half l l-rising
 
-    base₁ : Based z (s .directory .first) cs₁ es₁
+    pub base₁ : Based z (s .directory .first) cs₁ es₁
     base₁ = based-made z lim (s .directory .first) (s .chunks) (s .entries) base a (chunk s old .min) l₁ (a-free .0) (a-free .1) l₁-short r₁ h₁
 
     same₁ : (f : ChunkNo) → f ≢ a → chunkAt cs₁ f ≡ chunk s f
@@ -253,7 +253,7 @@ module _ (z : Sizes) (lim : Limited z) (s : Tables) (kept : Kept z s) (copying :
     here₁ : chunkAt cs₁ a ≡ newRow (chunk s old .min) l₁
     here₁ = made-here z lim (s .directory .first) (s .chunks) (s .entries) base a (chunk s old .min) l₁ (a-free .0) (a-free .1) l₁-short r₁ h₁
 
-    b-unused : chunkAt cs₁ b .status ≡ unused
+    pub b-unused : chunkAt cs₁ b .status ≡ unused
     b-unused = rw (same₁ b b-apart) (b-free .1)
 
     base₂ : Based z (s .directory .first) cs₂ es₂

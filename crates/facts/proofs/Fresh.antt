@@ -27,7 +27,7 @@ use Rattle.facts.specs.Facts.{Limited, RowRight, SlotRight, ListRight, l
 use Rattle.facts.proofs.Numbers.{number-none}
 
 -- every row of such a table is the one, past its end too
-getD-all : {A : Type 0} (n i : ℕ) (a : A) → getD (replicate n a) i a ≡ a
+pub getD-all : {A : Type 0} (n i : ℕ) (a : A) → getD (replicate n a) i a ≡ a
 getD-all zero i a = refl
 getD-all (suc n) zero a = refl
 getD-all (suc n) (suc i) a = getD-all n i a

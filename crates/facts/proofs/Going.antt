@@ -31,7 +31,7 @@ use Rattle.views.specs.Views.{Links, InRange}
 use Rattle.views.proofs.Entries.{links-length, find-hit, find-miss, links-below}
 use Rattle.views.proofs.Chunks.{chain-locate, chain-live}
 use Rattle.facts.specs.Facts.{Limited, ListRight, listed, Chained, Tabled, Holds, holdAt, ChunkOfKey, EntryHeld, Tasked, Waits, Allowed}
-use Rattle.facts.proofs.Numbers.{number-in, number-none, number-cases}
+use Rattle.facts.proofs.Numbers.{holding}
 use Rattle.facts.proofs.Operations.{throughout, implies, fits-move}
 use Rattle.facts.proofs.Shapes.{chain-short}
 use Rattle.facts.proofs.Writes.{slot-held, slot-written}
@@ -96,7 +96,7 @@ module _ (z : Sizes) (lim : Limited z) (s : Tables) (h : Tabled z (s .directory)
         one e = omega arith
 
     pub holds-at : (n : ℕ) → t .stage ≡ n → n ≢ 0 → Holds z t (holdAt n)
-    holds-at n e ne = rw (← e) (r .holds (λ q. ne (sym e ∙ q)))
+    holds-at = holding z (s .chunks) (s .entries) t r
 
     -- a row that goes on, by what its stage must hold
     pub row-right : (n : ℕ) (c : ChunkNo) (e : EntryNo) (o m : HandleNo) (p w : ℕ) → n ≢ 0 → Holds z (Stages.goesTo t n c e o m p w) (holdAt n) →

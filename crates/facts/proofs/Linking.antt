@@ -100,6 +100,8 @@ module _ (z : Sizes) (lim : Limited z) (d : Directory) (cs : List Chunk) (es : L
         record {
           tables = tabled-kept z cs cs′ same es es′ frozen d h len (λ f b. record { row = rows f b; slot = λ x bx. rw (used f) (slots f b x bx); links = listed-links f b }) so;
           tasks = λ t r. tasked-kept z cs cs′ same es es′ t r (λ f b. rw (used f) (le-refl _)) (λ f x b u. keys f x (le-trans u (h .lists f b .row .used))) members;
+          same = same;
+          members = members;
         }
       where
         key-is : entryAt z es′ c e .key ≡ k

@@ -56,7 +56,7 @@ module _ (z : Sizes) (lim : Limited z) (first : ChunkNo) (cs : List Chunk) (es :
   len : length madeEntries ≡ length es
   len = filled-length z c 0 l es
 
-  rows : (f : ChunkNo) (e : EntryNo) → f ≢ c → e .0 < z .entries → entryAt z madeEntries f e ≡ entryAt z es f e
+  pub rows : (f : ChunkNo) (e : EntryNo) → f ≢ c → e .0 < z .entries → entryAt z madeEntries f e ≡ entryAt z es f e
   rows f e ne be = filled-other z c b 0 l es f e fits (h .entries-sized) be (λ p. absurd (ne p))
 
   pub made-other : (f : ChunkNo) → f ≢ c → chunkAt madeChunks f ≡ chunkAt cs f
@@ -74,13 +74,13 @@ module _ (z : Sizes) (lim : Limited z) (first : ChunkNo) (cs : List Chunk) (es :
   links : Links z madeEntries c (chunkAt madeChunks c .used) 0 (chunkAt madeChunks c .head) (upFrom 0 (length l))
   links = rw made-here (filled-links z c b (length l) 0 0 l es (rw zero-add (le-refl _)) short (h .entries-sized) rising)
 
-  seen : listed z madeChunks madeEntries c ≡ upFrom 0 (length l)
+  pub seen : listed z madeChunks madeEntries c ≡ upFrom 0 (length l)
   seen = links-view z madeEntries c (chunkAt madeChunks c .used) small (lim .entries) (z .entries) 0 (chunkAt madeChunks c .head) (upFrom 0 (length l)) (le-trans (links-length z madeEntries c (chunkAt madeChunks c .used) 0 (chunkAt madeChunks c .head) (upFrom 0 (length l)) links) small) links
     where
       small : chunkAt madeChunks c .used ≤ z .entries
       small = rw made-here short
 
-  slot : (e : EntryNo) → e .0 < z .entries → SlotRight z (length l) (e .0) (entryAt z madeEntries c e)
+  pub slot : (e : EntryNo) → e .0 < z .entries → SlotRight z (length l) (e .0) (entryAt z madeEntries c e)
   slot e be = by-test (ltb (e .0) (length l)) (λ t. used (ltb-true _ _ t)) (λ t. past (ltb-false _ _ t))
     where
       used : e .0 < length l → SlotRight z (length l) (e .0) (entryAt z madeEntries c e)

@@ -15,7 +15,10 @@ use Rattle.rules.specs.declared.EntryNo.{EntryNo}
 use Rattle.rules.specs.Words.{pick, _or_, NONE}
 use Rattle.rules.specs.Shape.{numbers, heldAs}
 use Rattle.laws.proofs.Tests.{picked, or-cases}
+use Rattle.rules.specs.declared.Task.{Task}
+use Rattle.rules.specs.declared.Chunk.{Chunk}
 use Rattle.views.specs.Views.{Links}
+use Rattle.facts.specs.Facts.{Holds, holdAt, Tasked}
 
 -- a number of the table, or none
 pub number-in : (size n : ℕ) → n < size → numbers size n ≡ true
@@ -42,3 +45,7 @@ pub head-right : (z : Sizes) (es : List Entry) (c : ChunkNo) (used : ℕ) → us
 unfolding Links
 head-right z es c used b k e [] h = rw (h) (number-none (z .entries))
 head-right z es c used b k e (x ∷ l) h = rw (h .0) (number-in _ _ (le-trans (h .1) b))
+
+-- what a task at a stage holds
+pub holding : (z : Sizes) (cs : List Chunk) (es : List Entry) (t : Task) → Tasked z cs es t → (n : ℕ) → t .stage ≡ n → n ≢ 0 → Holds z t (holdAt n)
+holding z cs es t r n e ne = rw (← e) (r .holds (λ q. ne (sym e ∙ q)))

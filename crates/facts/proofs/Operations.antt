@@ -1,10 +1,10 @@
 -- Which stages an operation fits, by trying the seven operations.
 use Prim.Native.Nat.{ℕ, zero, suc, _<_}
-use mathlib.Core.Path.{_≡_, refl}
+use mathlib.Core.Path.{_≡_}
 use mathlib.Core.Bool.{Bool, true, false, false≢true}
 use native.Mathlib.Nat.{not-suc-le-zero, eq-or-lt-of-le, le-of-suc-le-suc}
 use native.Mathlib.Omega.{arith}
-use lib.Dec.{eqb, leb}
+use lib.Dec.{eqb}
 use borrow.Author.Tests.{eqb-true}
 use Rattle.rules.specs.Words.{pick, _and_, _or_, get, put, putIfAbsent, upsert, compute, remove, scan}
 use Rattle.rules.specs.Shape.{fitsOperation}
@@ -33,11 +33,15 @@ fits-known op n =
     (λ _. picked (λ (b : Bool). b ≡ true → op < 8) (eqb op remove) (λ e _. omega (arith, eqb-true op remove e))
     (λ _. picked (λ (b : Bool). b ≡ true → op < 8) (eqb op scan) (λ e _. omega (arith, eqb-true op scan e)) (λ _ h. absurd (false≢true h)))))))
 
+imply : (a b : Bool) → a ≡ true → implies a b ≡ true → b ≡ true
+imply true b p q = q
+imply false b p q = absurd (false≢true p)
+
+-- what each operation that fits a stage passes
+pub fits-test : (n : ℕ) (p : ℕ → Bool) → throughout 8 (λ op. implies (fitsOperation op n) (p op)) ≡ true → (op : ℕ) → fitsOperation op n ≡ true → p op ≡ true
+fits-test n p all op f = imply _ _ f (through (λ op. implies (fitsOperation op n) (p op)) 8 all op (fits-known op n f))
+
 -- from a stage that an operation fits, under a test of the operation, to another
 pub fits-move : (n m : ℕ) (when : ℕ → Bool) → throughout 8 (λ op. implies (fitsOperation op n and when op) (fitsOperation op m)) ≡ true →
     (op : ℕ) → fitsOperation op n ≡ true → when op ≡ true → fitsOperation op m ≡ true
-fits-move n m when all op f w = go _ _ (both _ _ f w) (through (λ op. implies (fitsOperation op n and when op) (fitsOperation op m)) 8 all op (fits-known op n f))
-  where
-    go : (a b : Bool) → a ≡ true → implies a b ≡ true → b ≡ true
-    go true b p q = q
-    go false b p q = absurd (false≢true p)
+fits-move n m when all op f w = imply _ _ (both _ _ f w) (through (λ op. implies (fitsOperation op n and when op) (fitsOperation op m)) 8 all op (fits-known op n f))

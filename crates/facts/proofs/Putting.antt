@@ -3,7 +3,7 @@ use Prim.Native.Nat.{ℕ, zero, suc, _+_, _*_, _≤_, _<_}
 use mathlib.Core.Path.{_≡_, refl, sym, ap, _∙_, subst}
 use mathlib.Core.Logic.{_⊎_, inl, inr, ⊎-elim, ⊎-map, _≢_}
 use mathlib.Core.Bool.{Bool, true, false}
-use mathlib.Core.List.{List, [], _∷_, List·Memᴰ, List·Memᴰ·head}
+use mathlib.Core.List.{List, [], _∷_, List·Memᴰ, List·Memᴰ·head, List·Memᴰ·not-nil}
 use native.Mathlib.Nat.{le-trans, le-refl}
 use native.Mathlib.Omega.{arith}
 use lib.Dec.{eqb}
@@ -38,6 +38,13 @@ pub record Based (z : Sizes) (first : ChunkNo) (cs : List Chunk) (es : List Entr
 
 pub based-of : (z : Sizes) (d : Directory) (cs : List Chunk) (es : List Entry) → Tabled z d cs es → Based z (d .first) cs es
 based-of z d cs es h = record { chunks-sized = h .chunks-sized; entries-sized = h .entries-sized; lists = h .lists; chained = h .chained; key-in-range = h .key-in-range }
+
+-- a chain that is not empty, by all its members
+pub chained-by : (z : Sizes) (cs : List Chunk) (start : ChunkNo) (l : List ChunkNo) → Chain z cs 0 start l → chunkAt cs start .min ≡ 0 → length l ≡ liveCount cs →
+    ((c : ChunkNo) → c .0 < z .chunks → chunkAt cs c .status ≡ live → List·Memᴰ c l) → {x : ChunkNo} → List·Memᴰ x l → Chained z start cs
+unfolding Chain
+chained-by z cs start [] h e n all m = absurd (List·Memᴰ·not-nil m)
+chained-by z cs start (x ∷ l) h e n all m = record { rest = l; chain = rw (h .0) (refl, h .1, h .2, h .3, h .4); from = e; counted = n; every = λ c b k. rw (h .0) (all c b k) }
 
 module _ (z : Sizes) (lim : Limited z) (first : ChunkNo) (cs : List Chunk) (es : List Entry) (h : Based z first cs es) where
   -- what comes after a live chunk is live

@@ -7,7 +7,8 @@ use lib.Dec.{eqb}
 use borrow.Author.Tests.{eqb-true}
 use Rattle.rules.specs.declared.Sizes.{Sizes}
 use Rattle.rules.specs.declared.Report.the-variants as report
-use Rattle.rules.specs.Words.{pick, toDrain, toCopy, toSwap, toRelease}
+use native.Mathlib.Omega.{arith}
+use Rattle.rules.specs.Words.{pick, limits, toDrain, toCopy, toSwap, toRelease}
 use Rattle.rules.specs.Tables.{Tables}
 use Rattle.rules.specs.Rebalance.{Outcome, rebalanceDoes}
 use Rattle.rules.specs.Shape.{shape}
@@ -66,3 +67,7 @@ module _ (z : Sizes) (lim : Limited z) where
         shaped = λ s r. has-shape z lim s (reached-kept r);
         never-ten = λ s r c. rw (calls-does s (reached-kept r) c) (not-ten _ (does-ok z s c));
       }
+
+-- document 01's sizes are such
+pub at-limits : Limited limits
+at-limits = record { some = omega arith; two = omega arith; chunks = omega arith; entries = omega arith; handles = omega arith }

@@ -29,6 +29,18 @@ put-ne cs d x f ne = getD-set-other cs (d .0) (f .0) x emptyChunk (λ e. ne (ap 
 put-eq : (cs : List Chunk) (d : ChunkNo) (x : Chunk) → d .0 < length cs → chunkAt (set cs (d .0) x) d ≡ x
 put-eq cs d x b = getD-set-same cs (d .0) x emptyChunk b
 
+-- what holds of the tables and is left by each of swap in's writes holds of the tables after it
+pub swap-by : (z : Sizes) (s : Tables) (P : Tables → Type 0) → P s →
+    ((x : Tables) → P x → P (putChunk x (beforeOld z s) (withNextChunk (chunk s (beforeOld z s)) (s .directory .new)))) →
+    ((x : Tables) → P x → P (putChunk x (s .directory .new) (liveBefore (chunk s (s .directory .new)) (pick (ltb (s .directory .second .0) (z .chunks)) (s .directory .second) (chunk s (s .directory .old) .next))))) →
+    ((x : Tables) → P x → P (putChunk x (s .directory .second) (liveBefore (chunk s (s .directory .second)) (chunk s (s .directory .old) .next)))) →
+    ((x : Tables) → P x → P (putChunk x (s .directory .old) (withStatus (chunk s (s .directory .old)) retired))) →
+    ((x : Tables) (d : Directory) → P x → P (withDirectory x d)) → P (swapsIn z s .tables)
+swap-by z s P here before new second old to = to _ _ (old _ (picked P (ltb (s .directory .second .0) (z .chunks)) (λ _. second _ made) (λ _. made)))
+  where
+    made : P (putChunk (pick (eqb (s .directory .first .0) (s .directory .old .0)) s (putChunk s (beforeOld z s) (withNextChunk (chunk s (beforeOld z s)) (s .directory .new)))) (s .directory .new) (liveBefore (chunk s (s .directory .new)) (pick (ltb (s .directory .second .0) (z .chunks)) (s .directory .second) (chunk s (s .directory .old) .next))))
+    made = new _ (picked P (eqb (s .directory .first .0) (s .directory .old .0)) (λ _. here) (λ _. before _ here))
+
 module _ (z : Sizes) (lim : Limited z) (s : Tables) (kept : Kept z s) (swapping : s .directory .stage ≡ toSwap) where
   abbrev old : ChunkNo
   old = s .directory .old

@@ -31,7 +31,7 @@ use Rattle.facts.proofs.Numbers.{number-in, number-cases}
 use Rattle.facts.proofs.Shapes.{chain-short}
 use Rattle.facts.proofs.Sames.{list-quiet}
 use Rattle.facts.proofs.Writes.{same-chunk}
-use Rattle.facts.proofs.Putting.{Based, based-of, next-live}
+use Rattle.facts.proofs.Putting.{chained-by, Based, based-of, next-live}
 
 -- the new ones, of which there may be one
 abbrev pub newOnes : Sizes → Directory → List ChunkNo
@@ -50,13 +50,6 @@ pub record Swapped (z : Sizes) (s : Tables) (cs : List Chunk) : Type 0 where
   pub second : s .directory .second .0 < z .chunks → chunkAt cs (s .directory .second) ≡ liveBefore (chunk s (s .directory .second)) (chunk s (s .directory .old) .next)
   pub before : s .directory .first ≢ s .directory .old → chunkAt cs (beforeOld z s) ≡ withNextChunk (chunk s (beforeOld z s)) (s .directory .new)
   pub other : (f : ChunkNo) → f ≢ s .directory .old → f ≢ s .directory .new → f ≢ s .directory .second → (s .directory .first ≢ s .directory .old → f ≢ beforeOld z s) → chunkAt cs f ≡ chunk s f
-
--- a chain that is not empty, by all its members
-chained-by : (z : Sizes) (cs : List Chunk) (start : ChunkNo) (l : List ChunkNo) → Chain z cs 0 start l → chunkAt cs start .min ≡ 0 → length l ≡ liveCount cs →
-    ((c : ChunkNo) → c .0 < z .chunks → chunkAt cs c .status ≡ live → List·Memᴰ c l) → {x : ChunkNo} → List·Memᴰ x l → Chained z start cs
-unfolding Chain
-chained-by z cs start [] h e n all m = absurd (List·Memᴰ·not-nil m)
-chained-by z cs start (x ∷ l) h e n all m = record { rest = l; chain = rw (h .0) (refl, h .1, h .2, h .3, h .4); from = e; counted = n; every = λ c b k. rw (h .0) (all c b k) }
 
 module _ (z : Sizes) (lim : Limited z) (s : Tables) (kept : Kept z s) (swapping : s .directory .stage ≡ toSwap) where
   h : Tabled z (s .directory) (s .chunks) (s .entries)

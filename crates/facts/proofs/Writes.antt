@@ -36,10 +36,12 @@ same-chunk c d = elim (ℕ-discrete (c .0) (d .0)) [ yes e ↦ inl (ap chunkNo e
 pub record Written (z : Sizes) (d : Directory) (cs : List Chunk) (es : List Entry) (cs′ : List Chunk) (es′ : List Entry) : Type 0 where
   pub tables : Tabled z d cs′ es′
   pub tasks : (t : Task) → Tasked z cs es t → Tasked z cs′ es′ t
+  pub same : Same cs cs′
+  pub members : (c : ChunkNo) (e : EntryNo) → c .0 < z .chunks → List·Memᴰ e (listed z cs es c) → List·Memᴰ e (listed z cs′ es′ c)
 
 module _ (z : Sizes) (lim : Limited z) (d : Directory) (cs : List Chunk) (es : List Entry) (h : Tabled z d cs es) where
   pub nothing-written : Written z d cs es cs es
-  nothing-written = record { tables = h; tasks = λ t r. r }
+  nothing-written = record { tables = h; tasks = λ t r. r; same = same-all cs; members = λ c e b m. m }
 
   -- a linked entry is one of the chunk's
   pub below : (c : ChunkNo) → c .0 < z .chunks → Every (λ x. x .0 < chunkAt cs c .used) (listed z cs es c)
@@ -78,6 +80,8 @@ module _ (z : Sizes) (lim : Limited z) (d : Directory) (cs : List Chunk) (es : L
         record {
           tables = tabled-kept z cs cs (same-all cs) es named (λ f. refl) d h (length-set es _ _) (λ f bf. record { row = h .lists f bf .row; slot = named-slot f bf; links = named-quiet f bf .1 }) (λ f bf. inl (record { list = named-quiet f bf .0; keys = λ x m. named-row f x (inside f bf x m) .0 }));
           tasks = λ t r. tasked-kept z cs cs (same-all cs) es named t r (λ f bf. le-refl _) (λ f x bf ux. named-row f x (le-trans ux (h .lists f bf .row .used)) .0) (λ f x bf m. rw (named-quiet f bf .0) m);
+          same = same-all cs;
+          members = λ f x bf m. rw (named-quiet f bf .0) m;
         }
 
   -- ---- a slot taken
@@ -168,6 +172,8 @@ module _ (z : Sizes) (lim : Limited z) (d : Directory) (cs : List Chunk) (es : L
         record {
           tables = tabled-kept z cs chunks′ slot-same es entries′ (λ f. chunk-put cs c taken f (λ y. y .frozen ≡ chunkAt cs f .frozen) many (λ p. rw p refl) (λ _. refl)) d h (length-set es _ _) (λ f bf. record { row = slot-chunk f bf; slot = slot-slot f bf; links = slot-quiet f bf .1 }) (λ f bf. inl (record { list = slot-quiet f bf .0; keys = λ x m. ap (λ (y : Entry). y .key) (slot-row f x (below f bf x m) (inside f bf x m)) }));
           tasks = λ t r. tasked-kept z cs chunks′ slot-same es entries′ t r (λ f bf. slot-used f (λ n. chunkAt cs f .used ≤ n) (λ p. rw p (omega arith)) (λ _. le-refl _)) (λ f x bf ux. ap (λ (y : Entry). y .key) (slot-row f x ux (le-trans ux (h .lists f bf .row .used)))) (λ f x bf m. rw (slot-quiet f bf .0) m);
+          same = slot-same;
+          members = λ f x bf m. rw (slot-quiet f bf .0) m;
         }
 
     -- the slot taken is the key's, and its number is below the count

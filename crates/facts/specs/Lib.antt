@@ -2,3 +2,4 @@ pub mod Facts
 pub mod Reached
 pub mod ShapeHolds
 pub mod RangesCover
+pub mod Simulates

@@ -1,3 +1,6 @@
 pub mod Naming
 pub mod Free
 pub mod Passing
+pub mod Owning
+pub mod Keys
+pub mod Handing

@@ -1,12 +1,11 @@
 -- What a change of the entries' table, or of one task's row, leaves of the facts of handles.
-use Prim.Native.Nat.{ℕ, zero, suc, _+_, _*_, _≤_, _<_}
+use Prim.Native.Nat.{ℕ, _*_, _≤_, _<_}
 use mathlib.Core.Path.{_≡_, refl, sym, ap, _∙_, subst}
 use mathlib.Core.Logic.{_⊎_, inl, inr, ⊎-elim, _≢_}
-use mathlib.Core.Bool.{Bool, true, false}
-use mathlib.Core.List.{List, [], _∷_}
-use native.Mathlib.Decide.{ℕ-discrete, decLt}
+use mathlib.Core.List.{List}
+use native.Mathlib.Decide.{ℕ-discrete}
 use native.Mathlib.Omega.{arith}
-use lib.ListN.{length, getD, set}
+use lib.ListN.{length, set}
 use Rattle.rules.specs.declared.Sizes.{Sizes}
 use Rattle.rules.specs.declared.Task.{Task}
 use Rattle.rules.specs.declared.Entry.{Entry}
@@ -14,19 +13,19 @@ use Rattle.rules.specs.declared.ChunkNo.{ChunkNo}
 use Rattle.rules.specs.declared.EntryNo.{EntryNo}
 use Rattle.rules.specs.declared.HandleNo.{HandleNo}
 use Rattle.rules.specs.Words.{NONE}
-use Rattle.rules.specs.Tables.{Tables, idleTask, entryAt, row}
+use Rattle.rules.specs.Tables.{entryAt, row}
 use Rattle.rules.specs.Stages.{withHandle}
-use Rattle.laws.proofs.Lists.{getD-set}
 use Rattle.views.proofs.Rows.{entry-put}
-use Rattle.handles.specs.Owned.{Row, NamedUnder, Unnamed, OneKey, NewOwn, Owned, Sourced}
+use Rattle.handles.specs.Owned.{Row, NamedUnder, Unnamed, OneKey, NewOwn, OldKey, Owned, Sourced}
 
 module _ (z : Sizes) where
   -- ---- the entries change
+  -- what names a handle in the second table does so in the first
+  pub sourced-back : (es es′ : List Entry) → Sourced z es es′ → (n i : ℕ) → n < z .handles → NamedUnder z es′ n i → NamedUnder z es n i
+  sourced-back es es′ from n i b v = subst (λ (m : ℕ). NamedUnder z es m i) (v .names) (subst (λ (m : ℕ). NamedUnder z es (entryAt z es′ (v .chunk) (v .entry) .handle .0) m) (v .keyed) (from (v .chunk) (v .entry) (v .row) (rw (v .names) b)))
+
   pub sourced-one-key : (es es′ : List Entry) → Sourced z es es′ → OneKey z es → OneKey z es′
-  sourced-one-key es es′ from h n j k b x y = h n j k b (back x) (back y)
-    where
-      back : {i : ℕ} → NamedUnder z es′ n i → NamedUnder z es n i
-      back {i} v = subst (λ (m : ℕ). NamedUnder z es m i) (v .names) (subst (λ (m : ℕ). NamedUnder z es (entryAt z es′ (v .chunk) (v .entry) .handle .0) m) (v .keyed) (from (v .chunk) (v .entry) (v .row) (rw (v .names) b)))
+  sourced-one-key es es′ from h n j k b x y = h n j k b (sourced-back es es′ from n j b x) (sourced-back es es′ from n k b y)
 
   pub sourced-unnamed : (es es′ : List Entry) (h : ℕ) → h < z .handles → Sourced z es es′ → Unnamed z es h → Unnamed z es′ h
   sourced-unnamed es es′ h b from un c e r q = let v = from c e r (rw q b) in un (v .chunk) (v .entry) (v .row) (v .names ∙ q)
@@ -78,6 +77,10 @@ module _ (z : Sizes) where
         both-ways (inr p) (inl q) = absurd (un (x .chunk) (x .entry) (x .row) (sym (ap (λ (v : Entry). v .handle .0) p) ∙ x .names ∙ sym (is-new y q)))
         both-ways (inr p) (inr q) = one n j k b (was x p) (was y q)
 
+    -- what names another handle did so before
+    name-back : (n k : ℕ) → n ≢ h .0 → NamedUnder z named n k → NamedUnder z es n k
+    name-back n k ne v = name-cases (v .chunk) (v .entry) (λ y. y .handle .0 ≡ n → y .key ≡ k → NamedUnder z es n k) (v .row) (λ _ _ q. absurd (ne (sym q))) (λ _ q w. record { chunk = v .chunk; entry = v .entry; row = v .row; names = q; keyed = w }) (v .names) (v .keyed)
+
     -- another handle stays unnamed
     pub name-unnamed : (n : ℕ) → n ≢ h .0 → Unnamed z es n → Unnamed z named n
     name-unnamed n ne un d f r = name-cases d f (λ y. y .handle .0 ≢ n) r (λ _ _ q. ne (sym q)) (λ _. un d f r)
@@ -85,7 +88,7 @@ module _ (z : Sizes) where
   -- ---- a task's row changes
   -- what its row holds afterwards: of the old handle, none, the same, or one that an entry names; of the new one, none, the same, or a free one
   pub record Passes (es : List Entry) (tasks : ℕ → Task) (t t′ : Task) : Type 0 where
-    pub old : (t′ .old .0 ≡ NONE) ⊎ ((t′ .old .0 ≡ t .old .0) ⊎ ((k : ℕ) × NamedUnder z es (t′ .old .0) k))
+    pub old : (t′ .old .0 ≡ NONE) ⊎ (((t′ .old .0 ≡ t .old .0) ⊎ NamedUnder z es (t′ .old .0) (t .key)) × (t′ .key ≡ t .key))
     pub new : (t′ .new .0 ≡ NONE) ⊎ (((t′ .new .0 ≡ t .new .0) × (t′ .swapped ≡ 0 → t .swapped ≡ 0)) ⊎ (Unnamed z es (t′ .new .0) × ((m : ℕ) → (tasks m .old .0 ≢ t′ .new .0) × (tasks m .new .0 ≢ t′ .new .0)) × (t′ .old .0 ≢ t′ .new .0)))
 
   -- the tasks with one row written
@@ -97,13 +100,12 @@ module _ (z : Sizes) where
     not-none b e = omega arith
 
     -- a handle that no entry names and no task held as its old one is no task's old one
-    old-not : (h : ℕ) → h < z .handles → Unnamed z es h → ((j : ℕ) → tasks j .old .0 ≢ h) → (j : ℕ) → tasks′ j .old .0 ≢ h
+    pub old-not : (h : ℕ) → h < z .handles → Unnamed z es h → ((j : ℕ) → tasks j .old .0 ≢ h) → (j : ℕ) → tasks′ j .old .0 ≢ h
     old-not h b un o j q = ⊎-elim (λ (e : (j ≡ n) × (tasks′ j ≡ t′)). at-n (sym (ap (λ (t : Task). t .old .0) (e .1)) ∙ q) (p .old)) (λ (e : (j ≢ n) × (tasks′ j ≡ tasks j)). o j (sym (ap (λ (t : Task). t .old .0) (e .1)) ∙ q)) (is j)
       where
-        at-n : t′ .old .0 ≡ h → (t′ .old .0 ≡ NONE) ⊎ ((t′ .old .0 ≡ tasks n .old .0) ⊎ ((k : ℕ) × NamedUnder z es (t′ .old .0) k)) → ⊥
+        at-n : t′ .old .0 ≡ h → (t′ .old .0 ≡ NONE) ⊎ (((t′ .old .0 ≡ tasks n .old .0) ⊎ NamedUnder z es (t′ .old .0) (tasks n .key)) × (t′ .key ≡ tasks n .key)) → ⊥
         at-n r (inl e) = not-none b (sym r ∙ e)
-        at-n r (inr (inl e)) = o n (sym e ∙ r)
-        at-n r (inr (inr e)) = un (e .1 .chunk) (e .1 .entry) (e .1 .row) (e .1 .names ∙ r)
+        at-n r (inr e) = ⊎-elim (λ (i : t′ .old .0 ≡ tasks n .old .0). o n (sym i ∙ r)) (λ i. un (i .chunk) (i .entry) (i .row) (i .names ∙ r)) (e .0)
 
     -- of the task itself: its unswapped new handle was so before, or is the free one taken
     new-here : t′ .new .0 < z .handles → t′ .swapped ≡ 0 → Unnamed z es (t′ .new .0) × ((j : ℕ) → tasks′ j .old .0 ≢ t′ .new .0) × ((j : ℕ) → j ≢ n → tasks j .new .0 ≢ t′ .new .0)
@@ -149,8 +151,15 @@ module _ (z : Sizes) where
             other j ne (inl r) q = taken (sym (ap (λ (t : Task). t .new .0) (r .1)) ∙ q) (p .new)
             other j ne (inr r) q = o .not-new j ne (sym (ap (λ (t : Task). t .new .0) (r .1)) ∙ q)
 
+    key-kept : (m : ℕ) → OldKey z es (tasks′ m)
+    key-kept m = ⊎-elim (λ (e : (m ≡ n) × (tasks′ m ≡ t′)). rw (e .1) (here (p .old))) (λ (e : (m ≢ n) × (tasks′ m ≡ tasks m)). rw (e .1) (own .old-key m)) (is m)
+      where
+        here : (t′ .old .0 ≡ NONE) ⊎ (((t′ .old .0 ≡ tasks n .old .0) ⊎ NamedUnder z es (t′ .old .0) (tasks n .key)) × (t′ .key ≡ tasks n .key)) → OldKey z es t′
+        here (inl e) k b v = absurd (not-none b e)
+        here (inr e) k b v = ⊎-elim (λ (i : t′ .old .0 ≡ tasks n .old .0). own .old-key n k (rw (← i) b) (rw (← i) v)) (λ i. own .one-key (t′ .old .0) k (tasks n .key) b v i) (e .0) ∙ sym (e .1)
+
     pub task-owned : Owned z es tasks′
-    task-owned = record { one-key = own .one-key; new-own = new-kept }
+    task-owned = record { one-key = own .one-key; new-own = new-kept; old-key = key-kept }
 
   -- ---- the facts after a change of the entries
   pub sourced-owned : (es es′ : List Entry) (tasks : ℕ → Task) → Sourced z es es′ → Owned z es tasks → Owned z es′ tasks
@@ -158,12 +167,14 @@ module _ (z : Sizes) where
       record {
         one-key = sourced-one-key es es′ from (own .one-key);
         new-own = λ n b w. let o = own .new-own n b w in record { unnamed = sourced-unnamed es es′ (tasks n .new .0) b from (o .unnamed); not-old = o .not-old; not-new = o .not-new };
+        old-key = λ n k b v. own .old-key n k b (sourced-back es es′ from (tasks n .old .0) k b v);
       }
 
   pub named-owned : (es : List Entry) (tasks : ℕ → Task) (c : ChunkNo) (e : EntryNo) (h : HandleNo) (len : length es ≡ z .chunks * z .entries) (at : Row z c e) →
-      Unnamed z es (h .0) → ((n : ℕ) → tasks n .swapped ≡ 0 → tasks n .new .0 ≢ h .0) → Owned z es tasks → Owned z (set es (row z c e) (withHandle (entryAt z es c e) h)) tasks
-  named-owned es tasks c e h len at un other own =
+      Unnamed z es (h .0) → ((n : ℕ) → tasks n .swapped ≡ 0 → tasks n .new .0 ≢ h .0) → ((n : ℕ) → tasks n .old .0 ≢ h .0) → Owned z es tasks → Owned z (set es (row z c e) (withHandle (entryAt z es c e) h)) tasks
+  named-owned es tasks c e h len at un other olds own =
       record {
         one-key = name-new es c e h len at un (own .one-key);
         new-own = λ n b w. let o = own .new-own n b w in record { unnamed = name-unnamed es c e h len at (tasks n .new .0) (other n w) (o .unnamed); not-old = o .not-old; not-new = o .not-new };
+        old-key = λ n k b v. own .old-key n k b (name-back es c e h len at (tasks n .old .0) k (olds n) v);
       }

@@ -21,6 +21,7 @@ use Rattle.rules.specs.Walks.{locate, find, lowestFree, firstPresent}
 use Rattle.rules.specs.Stages
 use Rattle.laws.proofs.Tests.{picked, or-cases}
 use Rattle.facts.specs.Facts.{Limited, Tabled, Holds, holdAt, Tasked}
+use Rattle.facts.proofs.Numbers.{holding}
 use Rattle.handles.specs.Owned.{Row, NamedUnder, Unnamed}
 use Rattle.handles.proofs.Naming.{Passes}
 use Rattle.handles.proofs.Free.{free-unnamed, free-unheld}
@@ -44,35 +45,35 @@ module _ (z : Sizes) (lim : Limited z) (s : Tables) (h : Tabled z (s .directory)
     pub names : NamesRight z t (x .task) (x .write)
 
   holds-at : (m : ℕ) → t .stage ≡ m → m ≢ 0 → Holds z t (holdAt m)
-  holds-at m e ne = rw (← e) (r .holds (λ q. ne (sym e ∙ q)))
+  holds-at = holding z (s .chunks) (s .entries) t r
 
   -- nothing is held; both are held on; the old one is held on; nothing but what was
   dropped : {x : Decision} → x .task .old .0 ≡ NONE → x .task .new .0 ≡ NONE → NamesRight z t (x .task) (x .write) → Passed x
   dropped o e w = record { passes = record { old = inl o; new = inl e }; names = w }
 
-  held-on : {x : Decision} → x .task .old .0 ≡ t .old .0 → x .task .new .0 ≡ NONE → NamesRight z t (x .task) (x .write) → Passed x
-  held-on o e w = record { passes = record { old = inr (inl o); new = inl e }; names = w }
+  held-on : {x : Decision} → x .task .key ≡ t .key → x .task .old .0 ≡ t .old .0 → x .task .new .0 ≡ NONE → NamesRight z t (x .task) (x .write) → Passed x
+  held-on k o e w = record { passes = record { old = inr (inl o, k); new = inl e }; names = w }
 
-  both-on : {x : Decision} → x .task .old .0 ≡ t .old .0 → x .task .new .0 ≡ t .new .0 → (x .task .swapped ≡ 0 → t .swapped ≡ 0) → NamesRight z t (x .task) (x .write) → Passed x
-  both-on o e sw w = record { passes = record { old = inr (inl o); new = inr (inl (e, sw)) }; names = w }
+  both-on : {x : Decision} → x .task .key ≡ t .key → x .task .old .0 ≡ t .old .0 → x .task .new .0 ≡ t .new .0 → (x .task .swapped ≡ 0 → t .swapped ≡ 0) → NamesRight z t (x .task) (x .write) → Passed x
+  both-on k o e sw w = record { passes = record { old = inr (inl o, k); new = inr (inl (e, sw)) }; names = w }
 
   reads-pass : t .stage ≡ 3 → Passed (Stages.reads z s t)
   reads-pass e =
       let H = holds-at 3 e (omega arith) in
       picked Passed (ltb (entry z s (t .chunk) (t .entry) .handle .0) (z .handles))
-      (λ _. record { passes = record { old = inr (inr (entry z s (t .chunk) (t .entry) .key, record { chunk = t .chunk; entry = t .entry; row = record { chunk = ltb-true _ _ (H .chunk); entry = ltb-true _ _ (H .entry) }; names = refl; keyed = refl })); new = inl refl }; names = tt })
-      (λ _. picked Passed (inserts (t .operation)) (λ _. both-on refl refl (λ q. q) tt) (λ _. dropped refl refl tt))
+      (λ _. record { passes = record { old = inr (inr (record { chunk = t .chunk; entry = t .entry; row = record { chunk = ltb-true _ _ (H .chunk); entry = ltb-true _ _ (H .entry) }; names = refl; keyed = r .entry (ltb-true _ _ (H .entry)) .keyed }), refl); new = inl refl }; names = tt })
+      (λ _. picked Passed (inserts (t .operation)) (λ _. both-on refl refl refl (λ q. q) tt) (λ _. dropped refl refl tt))
 
   takes-pass : Passed (Stages.takesHandle z s t)
   takes-pass =
       picked Passed (ltb (lowestFree z s .0) (z .handles))
-      (λ i. record { passes = record { old = inr (inl refl); new = inr (inr (free-unnamed z (lim .handles) s (h .entries-sized) (ltb-true _ _ i), free-unheld z (lim .handles) s (h .entries-sized) (ltb-true _ _ i), free-unheld z (lim .handles) s (h .entries-sized) (ltb-true _ _ i) n .0)) }; names = tt })
+      (λ i. record { passes = record { old = inr (inl refl, refl); new = inr (inr (free-unnamed z (lim .handles) s (h .entries-sized) (ltb-true _ _ i), free-unheld z (lim .handles) s (h .entries-sized) (ltb-true _ _ i), free-unheld z (lim .handles) s (h .entries-sized) (ltb-true _ _ i) n .0)) }; names = tt })
       (λ _. dropped refl refl tt)
 
   publishes-pass : t .swapped ≡ 0 → Passed (Stages.publishes z s t)
   publishes-pass w =
-      picked Passed (eqb (chunk s (t .chunk) .frozen) 0) (λ _. both-on refl refl (λ _. w) tt)
-      (λ _. picked Passed (eqb (t .stage) 19) (λ _. held-on refl refl tt) (λ _. dropped refl refl tt))
+      picked Passed (eqb (chunk s (t .chunk) .frozen) 0) (λ _. both-on refl refl refl (λ _. w) tt)
+      (λ _. picked Passed (eqb (t .stage) 19) (λ _. held-on refl refl refl tt) (λ _. dropped refl refl tt))
 
   unswapped : (t .stage ≡ 10) ⊎ ((t .stage ≡ 13) ⊎ (t .stage ≡ 19)) → t .swapped ≡ 0
   unswapped (inl e) = eqb-true _ _ (holds-at 10 e (omega arith) .swapped)
@@ -83,8 +84,8 @@ module _ (z : Sizes) (lim : Limited z) (s : Tables) (h : Tabled z (s .directory)
   swaps-pass e =
       let H = holds-at 11 e (omega arith) in
       rw e (picked Passed (eqb (entry z s (t .chunk) (t .entry) .handle .0) (t .old .0))
-      (λ _. both-on refl refl (λ q. absurd (one q)) (record { chunk = ltb-true _ _ (H .chunk); entry = ltb-true _ _ (H .entry) }, inr (refl, ltb-true _ _ (H .new), eqb-true _ _ (H .swapped), refl)))
-      (λ _. both-on refl refl (λ q. q) tt))
+      (λ _. both-on refl refl refl (λ q. absurd (one q)) (record { chunk = ltb-true _ _ (H .chunk); entry = ltb-true _ _ (H .entry) }, inr (refl, ltb-true _ _ (H .new), eqb-true _ _ (H .swapped), refl)))
+      (λ _. both-on refl refl refl (λ q. q) tt))
     where
       one : _≡_ {A = ℕ} 1 0 → ⊥
       one q = omega arith
@@ -93,33 +94,33 @@ module _ (z : Sizes) (lim : Limited z) (s : Tables) (h : Tabled z (s .directory)
   clears-pass (inl e) =
       let H = holds-at 14 e (omega arith) in
       picked Passed (eqb (entry z s (t .chunk) (t .entry) .handle .0) (t .old .0))
-      (λ _. both-on refl refl (λ _. eqb-true _ _ (H .swapped)) (record { chunk = ltb-true _ _ (H .chunk); entry = ltb-true _ _ (H .entry) }, inl refl)) (λ _. both-on refl refl (λ q. q) tt)
+      (λ _. both-on refl refl refl (λ _. eqb-true _ _ (H .swapped)) (record { chunk = ltb-true _ _ (H .chunk); entry = ltb-true _ _ (H .entry) }, inl refl)) (λ _. both-on refl refl refl (λ q. q) tt)
   clears-pass (inr e) =
       let H = holds-at 20 e (omega arith) in
       picked Passed (eqb (entry z s (t .chunk) (t .entry) .handle .0) (t .old .0))
-      (λ _. both-on refl refl (λ _. eqb-true _ _ (H .swapped)) (record { chunk = ltb-true _ _ (H .chunk); entry = ltb-true _ _ (H .entry) }, inl refl)) (λ _. both-on refl refl (λ q. q) tt)
+      (λ _. both-on refl refl refl (λ _. eqb-true _ _ (H .swapped)) (record { chunk = ltb-true _ _ (H .chunk); entry = ltb-true _ _ (H .entry) }, inl refl)) (λ _. both-on refl refl refl (λ q. q) tt)
 
   pub decides-pass : Passed (Stages.decide z s t)
   unfolding Stages.stageDoes
   decides-pass =
-      picked P (eqb m 1 or eqb m 16) (λ _. held-on refl refl tt)
-      (λ _. picked P (eqb m 2) (λ _. picked Passed (ltb (find z s (t .chunk) (t .key) .0) (z .entries)) (λ _. dropped refl refl tt) (λ _. picked Passed (inserts (t .operation)) (λ _. both-on refl refl (λ q. q) tt) (λ _. dropped refl refl tt)))
+      picked P (eqb m 1 or eqb m 16) (λ _. held-on refl refl refl tt)
+      (λ _. picked P (eqb m 2) (λ _. picked Passed (ltb (find z s (t .chunk) (t .key) .0) (z .entries)) (λ _. dropped refl refl tt) (λ _. picked Passed (inserts (t .operation)) (λ _. both-on refl refl refl (λ q. q) tt) (λ _. dropped refl refl tt)))
       (λ _. picked P (eqb m 3) (λ e. reads-pass (eqb-true m 3 e))
-      (λ _. picked P (eqb m 4) (λ _. picked Passed (eqb (mark s (t .old)) 0) (λ _. picked Passed (eqb (t .operation) get) (λ _. dropped refl refl tt) (λ _. picked Passed (eqb (t .operation) putIfAbsent) (λ _. dropped refl refl tt) (λ _. both-on refl refl (λ q. q) tt))) (λ _. picked Passed (eqb (t .operation) get) (λ _. dropped refl refl tt) (λ _. both-on refl refl (λ q. q) tt)))
-      (λ _. picked P (eqb m 5) (λ _. picked Passed (eqb (mark s (t .old)) 0) (λ _. picked Passed (eqb (t .operation) remove) (λ _. held-on refl refl tt) (λ _. picked Passed (eqb (t .operation) put) (λ _. dropped refl refl tt) (λ _. dropped refl refl tt))) (λ _. picked Passed (inserts (t .operation)) (λ _. dropped refl refl tt) (λ _. both-on refl refl (λ q. q) tt)))
+      (λ _. picked P (eqb m 4) (λ _. picked Passed (eqb (mark s (t .old)) 0) (λ _. picked Passed (eqb (t .operation) get) (λ _. dropped refl refl tt) (λ _. picked Passed (eqb (t .operation) putIfAbsent) (λ _. dropped refl refl tt) (λ _. both-on refl refl refl (λ q. q) tt))) (λ _. picked Passed (eqb (t .operation) get) (λ _. dropped refl refl tt) (λ _. both-on refl refl refl (λ q. q) tt)))
+      (λ _. picked P (eqb m 5) (λ _. picked Passed (eqb (mark s (t .old)) 0) (λ _. picked Passed (eqb (t .operation) remove) (λ _. held-on refl refl refl tt) (λ _. picked Passed (eqb (t .operation) put) (λ _. dropped refl refl tt) (λ _. dropped refl refl tt))) (λ _. picked Passed (inserts (t .operation)) (λ _. dropped refl refl tt) (λ _. both-on refl refl refl (λ q. q) tt)))
       (λ _. picked P (eqb m 6) (λ _. picked Passed (eqb (chunk s (t .chunk) .frozen) 0) (λ _. picked Passed (ltb (chunk s (t .chunk) .used) (z .entries)) (λ _. dropped refl refl tt) (λ _. dropped refl refl tt)) (λ _. dropped refl refl tt))
-      (λ _. picked P (eqb m 7) (λ _. picked Passed (eqb (chunk s (t .chunk) .frozen) 0) (λ _. picked Passed (ltb (find z s (t .chunk) (t .key) .0) (z .entries)) (λ _. dropped refl refl tt) (λ _. both-on refl refl (λ q. q) tt)) (λ _. dropped refl refl tt))
+      (λ _. picked P (eqb m 7) (λ _. picked Passed (eqb (chunk s (t .chunk) .frozen) 0) (λ _. picked Passed (ltb (find z s (t .chunk) (t .key) .0) (z .entries)) (λ _. dropped refl refl tt) (λ _. both-on refl refl refl (λ q. q) tt)) (λ _. dropped refl refl tt))
       (λ _. picked P (eqb m 8) (λ _. takes-pass)
-      (λ _. picked P (eqb m 9) (λ _. both-on refl refl (λ q. q) tt)
+      (λ _. picked P (eqb m 9) (λ _. both-on refl refl refl (λ q. q) tt)
       (λ _. picked P (eqb m 10 or eqb m 13 or eqb m 19) (λ e. publishes-pass (unswapped (⊎-map (eqb-true m 10) (λ o. ⊎-map (eqb-true m 13) (eqb-true m 19) (or-cases _ _ o)) (or-cases _ _ e))))
       (λ _. picked P (eqb m 11) (λ e. swaps-pass (eqb-true m 11 e))
       (λ _. picked P (eqb m 14 or eqb m 20) (λ e. clears-pass (⊎-map (eqb-true m 14) (eqb-true m 20) (or-cases _ _ e)))
       (λ _. picked P (eqb m 12) (λ _. picked Passed (eqb (t .swapped) 0) (λ _. dropped refl refl tt) (λ _. dropped refl refl tt))
       (λ _. picked P (eqb m 15) (λ _. picked Passed (eqb (t .swapped) 0) (λ _. dropped refl refl tt) (λ _. dropped refl refl tt))
-      (λ _. picked P (eqb m 17) (λ _. picked Passed (ltb (find z s (t .chunk) (t .key) .0) (z .entries)) (λ _. held-on refl refl tt) (λ _. dropped refl refl tt))
-      (λ _. picked P (eqb m 18) (λ _. picked Passed (eqb (entry z s (t .chunk) (t .entry) .handle .0) (t .old .0)) (λ _. both-on refl refl (λ q. q) tt) (λ _. dropped refl refl tt))
+      (λ _. picked P (eqb m 17) (λ _. picked Passed (ltb (find z s (t .chunk) (t .key) .0) (z .entries)) (λ _. held-on refl refl refl tt) (λ _. dropped refl refl tt))
+      (λ _. picked P (eqb m 18) (λ _. picked Passed (eqb (entry z s (t .chunk) (t .entry) .handle .0) (t .old .0)) (λ _. both-on refl refl refl (λ q. q) tt) (λ _. dropped refl refl tt))
       (λ _. picked P (eqb m 21) (λ _. dropped refl refl tt)
-      (λ _. picked P (eqb m 22) (λ _. picked Passed (leb (t .argument) (t .key)) (λ _. dropped refl refl tt) (λ _. picked Passed (ltb (firstPresent z s (locate z s (t .key)) (t .key) (t .argument) .0) (z .entries)) (λ _. both-on refl refl (λ q. q) tt) (λ _. picked Passed (ltb (chunk s (locate z s (t .key)) .next .0) (z .chunks)) (λ _. both-on refl refl (λ q. q) tt) (λ _. dropped refl refl tt)))) (λ _. both-on refl refl (λ q. q) tt))))))))))))))))))
+      (λ _. picked P (eqb m 22) (λ e. let H = holds-at 22 (eqb-true m 22 e) (omega arith) in picked Passed (leb (t .argument) (t .key)) (λ _. dropped refl refl tt) (λ _. picked Passed (ltb (firstPresent z s (locate z s (t .key)) (t .key) (t .argument) .0) (z .entries)) (λ _. dropped (eqb-true _ _ (H .old)) (eqb-true _ _ (H .new)) tt) (λ _. picked Passed (ltb (chunk s (locate z s (t .key)) .next .0) (z .chunks)) (λ _. dropped (eqb-true _ _ (H .old)) (eqb-true _ _ (H .new)) tt) (λ _. dropped refl refl tt)))) (λ _. both-on refl refl refl (λ q. q) tt))))))))))))))))))
     where
       m : ℕ
       m = t .stage

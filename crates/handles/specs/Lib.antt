@@ -1,2 +1,4 @@
 pub mod Owned
 pub mod OneKeyEach
+pub mod LiveOnce
+pub mod NeverHandedOut

@@ -1,4 +1,4 @@
--- The facts of handles that keep one key to each: one-key and new-own.
+-- The facts of handles that keep one key to each: one-key, new-own and old-key.
 use Prim.Native.Nat.{ℕ, _≤_, _<_}
 use mathlib.Core.Path.{_≡_}
 use mathlib.Core.Logic.{_⊎_, _≢_}
@@ -38,9 +38,14 @@ pub record NewOwn (z : Sizes) (es : List Entry) (tasks : ℕ → Task) (n : ℕ)
   pub not-old : (m : ℕ) → tasks m .old .0 ≢ tasks n .new .0
   pub not-new : (m : ℕ) → m ≢ n → tasks m .new .0 ≢ tasks n .new .0
 
+-- old-key: a held old handle is named under no other key than the task's
+abbrev pub OldKey : Sizes → List Entry → Task → Type 0
+OldKey z es t = (k : ℕ) → t .old .0 < z .handles → NamedUnder z es (t .old .0) k → k ≡ t .key
+
 pub record Owned (z : Sizes) (es : List Entry) (tasks : ℕ → Task) : Type 0 where
   pub one-key : OneKey z es
   pub new-own : (n : ℕ) → tasks n .new .0 < z .handles → tasks n .swapped ≡ 0 → NewOwn z es tasks n
+  pub old-key : (n : ℕ) → OldKey z es (tasks n)
 
 -- every naming entry of the second table has one of the first with its handle and key
 abbrev pub Sourced : Sizes → List Entry → List Entry → Type 0

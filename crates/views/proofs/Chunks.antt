@@ -147,6 +147,21 @@ unfolding Chain
 chain-raise z cs j k c [] h le = h
 chain-raise z cs j k c (x ∷ l) h le = (h .0, h .1, h .2, rw (h .0) at (le (rw (h .0) (h .1))), h .4)
 
+-- the chunk before another points to it
+pub before-next : (z : Sizes) (cs : List Chunk) (old : ChunkNo) (fuel lo : ℕ) (c x : ChunkNo) (l : List ChunkNo) → length l ≤ fuel → Chain z cs lo c (x ∷ l) → List·Memᴰ old l →
+    List·Memᴰ (beforeFrom z cs fuel c old) (x ∷ l) × (chunkAt cs (beforeFrom z cs fuel c old) .next ≡ old)
+unfolding Chain beforeFrom
+before-next z cs old fuel lo c x [] b h m = absurd (List·Memᴰ·not-nil m)
+before-next z cs old zero lo c x (y ∷ l) b h m = absurd (not-suc-le-zero b)
+before-next z cs old (suc fuel) lo c x (y ∷ l) b h m =
+    rw (h .0, h .4 .0)
+    (picked (λ (r : ChunkNo). List·Memᴰ r (x ∷ y ∷ l) × (chunkAt cs r .next ≡ old)) (eqb (y .0) (old .0)) (λ t. (List·Memᴰ·head refl, h .4 .0 ∙ ap chunkNo (eqb-true _ _ t)))
+    (λ t. rw (lt-ltb (y .0) (z .chunks) (h .4 .1)) (let on = before-next z cs old fuel _ y y l (le-of-suc-le-suc b) (refl, h .4 .1, h .4 .2, h .4 .3, h .4 .4) (later t (List·Memᴰ·cases-cons m)) in (List·Memᴰ·tail (on .0), on .1))))
+  where
+    later : eqb (y .0) (old .0) ≡ false → (old ≡ y) ⊎ List·Memᴰ old l → List·Memᴰ old l
+    later t (inl q) = absurd (eqb-false _ _ t (ap (λ (c : ChunkNo). c .0) (sym q)))
+    later t (inr n) = n
+
 -- the chain with new chunks in the place of the old one, by the rows that change
 module _ (z : Sizes) (cs cs′ : List Chunk) (sized : z .chunks ≤ NONE) (old a : ChunkNo) (new : List ChunkNo)
     (make : (lo : ℕ) (r : List ChunkNo) → lo ≤ chunkAt cs old .min → Chain z cs (chunkAt cs old .min + 1) (chunkAt cs old .next) r →
@@ -159,19 +174,6 @@ module _ (z : Sizes) (cs cs′ : List Chunk) (sized : z .chunks ≤ NONE) (old a
   pub chain-swap-first : (lo : ℕ) (c : ChunkNo) (l : List ChunkNo) → Chain z cs lo c (old ∷ l) → Every Same l → Chain z cs′ lo a (replaced old new (old ∷ l))
   unfolding Chain replaced
   chain-swap-first lo c l h same = rw (eq-eqb (old .0) (old .0) refl) (make lo l (h .3) (h .4) (chain-frame z cs cs′ _ _ l (h .4) same))
-
-  before-in : (fuel lo : ℕ) (c x : ChunkNo) (l : List ChunkNo) → length l ≤ fuel → Chain z cs lo c (x ∷ l) → List·Memᴰ old l → List·Memᴰ (beforeFrom z cs fuel c old) (x ∷ l)
-  unfolding Chain beforeFrom
-  before-in fuel lo c x [] b h m = absurd (List·Memᴰ·not-nil m)
-  before-in zero lo c x (y ∷ l) b h m = absurd (not-suc-le-zero b)
-  before-in (suc fuel) lo c x (y ∷ l) b h m =
-      rw (h .0, h .4 .0)
-      (picked (λ (r : ChunkNo). List·Memᴰ r (x ∷ y ∷ l)) (eqb (y .0) (old .0)) (λ t. List·Memᴰ·head refl)
-      (λ t. rw (lt-ltb (y .0) (z .chunks) (h .4 .1)) (List·Memᴰ·tail (before-in fuel _ y y l (le-of-suc-le-suc b) (refl, h .4 .1, h .4 .2, h .4 .3, h .4 .4) (later t (List·Memᴰ·cases-cons m))))))
-    where
-      later : eqb (y .0) (old .0) ≡ false → (old ≡ y) ⊎ List·Memᴰ old l → List·Memᴰ old l
-      later t (inl q) = absurd (eqb-false _ _ t (ap (λ (c : ChunkNo). c .0) (sym q)))
-      later t (inr n) = n
 
   -- it stands later: the one before it comes to point to the first new one
   pub chain-swap : (fuel lo : ℕ) (c x p : ChunkNo) (l : List ChunkNo) → length l ≤ fuel → Chain z cs lo c (x ∷ l) → List·Memᴰ old l →
@@ -244,25 +246,10 @@ module _ (z : Sizes) (cs cs′ : List Chunk) (sized : z .chunks ≤ NONE) (old a
           same = rows x (List·Memᴰ·head refl) not-old
 
           among : List·Memᴰ p (y ∷ l)
-          among = Memᴰ·cast (onward q t) (before-in fuel (chunkAt cs x .min + 1) y y l (le-of-suc-le-suc b) tail (later t (List·Memᴰ·cases-cons m)))
+          among = Memᴰ·cast (onward q t) (before-next z cs old fuel (chunkAt cs x .min + 1) y y l (le-of-suc-le-suc b) tail (later t (List·Memᴰ·cases-cons m)) .0)
 
           kept : chunkAt cs′ x .next ≡ y
           kept = nexts x (List·Memᴰ·head refl) not-old (λ e. apart .0 p among (ap (λ (c : ChunkNo). c .0) e)) ∙ h .4 .0
-
--- the chunk before another points to it
-pub before-next : (z : Sizes) (cs : List Chunk) (old : ChunkNo) (fuel lo : ℕ) (c x : ChunkNo) (l : List ChunkNo) → length l ≤ fuel → Chain z cs lo c (x ∷ l) → List·Memᴰ old l →
-    List·Memᴰ (beforeFrom z cs fuel c old) (x ∷ l) × (chunkAt cs (beforeFrom z cs fuel c old) .next ≡ old)
-unfolding Chain beforeFrom
-before-next z cs old fuel lo c x [] b h m = absurd (List·Memᴰ·not-nil m)
-before-next z cs old zero lo c x (y ∷ l) b h m = absurd (not-suc-le-zero b)
-before-next z cs old (suc fuel) lo c x (y ∷ l) b h m =
-    rw (h .0, h .4 .0)
-    (picked (λ (r : ChunkNo). List·Memᴰ r (x ∷ y ∷ l) × (chunkAt cs r .next ≡ old)) (eqb (y .0) (old .0)) (λ t. (List·Memᴰ·head refl, h .4 .0 ∙ ap chunkNo (eqb-true _ _ t)))
-    (λ t. rw (lt-ltb (y .0) (z .chunks) (h .4 .1)) (let on = before-next z cs old fuel _ y y l (le-of-suc-le-suc b) (refl, h .4 .1, h .4 .2, h .4 .3, h .4 .4) (later t (List·Memᴰ·cases-cons m)) in (List·Memᴰ·tail (on .0), on .1))))
-  where
-    later : eqb (y .0) (old .0) ≡ false → (old ≡ y) ⊎ List·Memᴰ old l → List·Memᴰ old l
-    later t (inl q) = absurd (eqb-false _ _ t (ap (λ (c : ChunkNo). c .0) (sym q)))
-    later t (inr n) = n
 
 -- ---- the members of the chain with new ones in the place of one
 module _ (old : ChunkNo) (new : List ChunkNo) where

@@ -249,3 +249,19 @@ module _ (z : Sizes) (es : List Entry) (c : ChunkNo) (e : EntryNo) (k : ℕ) whe
   put-cases (x ∷ l) y =
       picked (λ (r : List EntryNo). List·Memᴰ y r → (y ≡ e) ⊎ List·Memᴰ y (x ∷ l)) (ltb (entryAt z es c x .key) k)
       (λ _ m. ⊎-elim (λ p. inr (List·Memᴰ·head p)) (λ n. ⊎-map (λ p. p) (λ o. List·Memᴰ·tail o) (put-cases l y n)) (List·Memᴰ·cases-cons m)) (λ _ m. List·Memᴰ·cases-cons m)
+
+-- two linked entries with one key are one
+pub links-one : (z : Sizes) (es : List Entry) (c : ChunkNo) (used k : ℕ) (e x y : EntryNo) (l : List EntryNo) → Links z es c used k e l → List·Memᴰ x l → List·Memᴰ y l → entryAt z es c x .key ≡ entryAt z es c y .key → x ≡ y
+unfolding Links
+links-one z es c used k e x y [] h m n q = absurd (List·Memᴰ·not-nil m)
+links-one z es c used k e x y (v ∷ l) h m n q = go (List·Memᴰ·cases-cons m) (List·Memᴰ·cases-cons n) (λ m′ n′. links-one z es c used _ _ x y l (h .3) m′ n′ q)
+  where
+    -- a later one has a larger key
+    later : (u w : EntryNo) → u ≡ v → List·Memᴰ w l → entryAt z es c u .key ≡ entryAt z es c w .key → ⊥
+    later u w p o r = omega (arith, links-above z es c used _ _ l (h .3) w o, r, ap (λ (e : EntryNo). entryAt z es c e .key) p)
+
+    go : (x ≡ v) ⊎ List·Memᴰ x l → (y ≡ v) ⊎ List·Memᴰ y l → (List·Memᴰ x l → List·Memᴰ y l → x ≡ y) → x ≡ y
+    go (inl a) (inl b) f = a ∙ sym b
+    go (inl a) (inr b) f = absurd (later x y a b q)
+    go (inr a) (inl b) f = absurd (later y x b a (sym q))
+    go (inr a) (inr b) f = f a b

@@ -1,10 +1,10 @@
 -- Laws of what copy takes: the naming entries of a list, its halves, and the lowest unused chunks.
-use Prim.Native.Nat.{ℕ, zero, suc, _+_, _*_, _≤_, _<_}
-use mathlib.Core.Path.{_≡_, refl, sym, ap, _∙_}
-use mathlib.Core.Logic.{_⊎_, inl, inr, ⊎-elim, _≢_}
-use mathlib.Core.Bool.{Bool, true, false}
+use Prim.Native.Nat.{ℕ, zero, suc, _+_, _≤_, _<_}
+use mathlib.Core.Path.{_≡_, refl, sym}
+use mathlib.Core.Logic.{_⊎_, inl, inr, ⊎-elim}
+use mathlib.Core.Bool.{true, false}
 use mathlib.Core.List.{List, [], _∷_, List·Memᴰ, List·Memᴰ·head, List·Memᴰ·tail, List·Memᴰ·not-nil, List·Memᴰ·cases-cons}
-use native.Mathlib.Nat.{not-suc-le-zero, le-of-suc-le-suc, le-trans, le-refl, add-zero, add-suc, zero-add}
+use native.Mathlib.Nat.{not-suc-le-zero, le-of-suc-le-suc, le-trans, le-refl, add-zero, zero-add}
 use native.Mathlib.Numerals.{add-one}
 use native.Mathlib.Omega.{arith}
 use lib.Dec.{eqb, ltb}
@@ -16,7 +16,7 @@ use Rattle.rules.specs.declared.Chunk.{Chunk}
 use Rattle.rules.specs.declared.Entry.{Entry}
 use Rattle.rules.specs.declared.ChunkNo.{ChunkNo}
 use Rattle.rules.specs.declared.EntryNo.{EntryNo}
-use Rattle.rules.specs.Words.{pick, NONE, chunkNo, noChunk, unused}
+use Rattle.rules.specs.Words.{pick, NONE, chunkNo, unused}
 use Rattle.rules.specs.Tables.{emptyChunk, emptyEntry, entryAt, chunkAt}
 use Rattle.rules.specs.Rebalance.{namingFrom, unusedFrom, unusedCount}
 use Rattle.laws.specs.Counts.{Every}
@@ -72,6 +72,12 @@ module _ (P : Entry → Type 0) where
   every-drop (suc n) [] h = h
   every-drop (suc n) (y ∷ l) h = every-drop n l (λ v q. h v (List·Memᴰ·tail q))
 
+-- a member stands in the one part or the other
+pub take-drop-in : (n : ℕ) (l : List Entry) (x : Entry) → List·Memᴰ x l → List·Memᴰ x (take n l) ⊎ List·Memᴰ x (drop n l)
+take-drop-in zero l x m = inr m
+take-drop-in (suc n) [] x m = inl m
+take-drop-in (suc n) (y ∷ l) x m = ⊎-elim (λ p. inl (List·Memᴰ·head p)) (λ o. ⊎-elim (λ i. inl (List·Memᴰ·tail i)) (λ i. inr i) (take-drop-in n l x o)) (List·Memᴰ·cases-cons m)
+
 -- ---- the linked entries that name a handle
 module _ (z : Sizes) (es : List Entry) (c : ChunkNo) (used : ℕ) (small : used ≤ z .entries) (sized : z .entries ≤ NONE) where
   pub naming-rising : (fuel k : ℕ) (e : EntryNo) (l : List EntryNo) → Links z es c used k e l → Rising k (namingFrom z es c fuel e)
@@ -102,6 +108,21 @@ module _ (z : Sizes) (es : List Entry) (c : ChunkNo) (used : ℕ) (small : used 
       (picked (Every P) (ltb (entryAt z es c x .handle .0) (z .handles))
       (λ t y m. ⊎-elim (λ p. rw p (all x (List·Memᴰ·head refl) (ltb-true _ _ t))) (λ o. naming-every P fuel _ _ l (h .3) (λ v q. all v (List·Memᴰ·tail q)) y o) (List·Memᴰ·cases-cons m))
       (λ _. naming-every P fuel _ _ l (h .3) (λ v q. all v (List·Memᴰ·tail q))))
+
+  -- a linked entry that names a handle is one of them
+  pub naming-in : (fuel k : ℕ) (e x : EntryNo) (l : List EntryNo) → length l ≤ fuel → Links z es c used k e l → List·Memᴰ x l → entryAt z es c x .handle .0 < z .handles → List·Memᴰ (entryAt z es c x) (namingFrom z es c fuel e)
+  unfolding Links namingFrom
+  naming-in fuel k e x [] b h m i = absurd (List·Memᴰ·not-nil m)
+  naming-in zero k e x (y ∷ l) b h m i = absurd (not-suc-le-zero b)
+  naming-in (suc fuel) k e x (y ∷ l) b h m i =
+      rw (h .0, lt-ltb (y .0) (z .entries) (omega (arith, h .1)))
+      (⊎-elim (λ (p : x ≡ y). here p) (λ o. there (naming-in fuel _ _ x l (le-of-suc-le-suc b) (h .3) o i)) (List·Memᴰ·cases-cons m))
+    where
+      here : x ≡ y → List·Memᴰ (entryAt z es c x) (pick (ltb (entryAt z es c y .handle .0) (z .handles)) (entryAt z es c y ∷ namingFrom z es c fuel (entryAt z es c y .next)) (namingFrom z es c fuel (entryAt z es c y .next)))
+      here p = rw (← p, lt-ltb (entryAt z es c x .handle .0) (z .handles) i) (List·Memᴰ·head refl)
+
+      there : List·Memᴰ (entryAt z es c x) (namingFrom z es c fuel (entryAt z es c y .next)) → List·Memᴰ (entryAt z es c x) (pick (ltb (entryAt z es c y .handle .0) (z .handles)) (entryAt z es c y ∷ namingFrom z es c fuel (entryAt z es c y .next)) (namingFrom z es c fuel (entryAt z es c y .next)))
+      there o = picked (λ (r : List Entry). List·Memᴰ (entryAt z es c x) r) (ltb (entryAt z es c y .handle .0) (z .handles)) (λ _. List·Memᴰ·tail o) (λ _. o)
 
 -- ---- the lowest unused chunk
 pub unused-from : (cs : List Chunk) (n : ℕ) → 1 ≤ unusedCount cs → (i : ℕ) × (unusedFrom cs n .0 ≡ n + i) × (i < length cs) × (getD cs i emptyChunk .status ≡ unused) × (unusedCount cs ≤ unusedCount (drop (suc i) cs) + 1)

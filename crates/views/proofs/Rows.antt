@@ -1,15 +1,14 @@
 -- A row of a table read after one was written, and how many chunks are of a kind then.
-use Prim.Native.Nat.{ℕ, zero, suc, _+_, _*_, _≤_, _<_}
-use mathlib.Core.Path.{_≡_, refl, sym, ap, _∙_}
+use Prim.Native.Nat.{ℕ, zero, suc, _+_, _*_, _<_}
+use mathlib.Core.Path.{_≡_, refl, ap}
 use mathlib.Core.Logic.{_≢_}
-use mathlib.Core.Bool.{Bool, true, false}
 use mathlib.Core.List.{List, [], _∷_}
 use native.Mathlib.Nat.{not-suc-le-zero, le-of-suc-le-suc}
-use native.Mathlib.Decide.{ℕ-discrete}
+use native.Mathlib.Decide.{decLt}
 use native.Mathlib.Omega.{arith}
 use lib.Dec.{eqb}
 use lib.ListN.{length, getD, set}
-use lib.Seq.{getD-set-same, getD-set-other}
+use lib.Seq.{set-out}
 use Rattle.rules.specs.declared.Sizes.{Sizes}
 use Rattle.rules.specs.declared.Chunk.{Chunk}
 use Rattle.rules.specs.declared.Entry.{Entry}
@@ -19,11 +18,15 @@ use Rattle.rules.specs.Words.{pick, chunkNo, entryNo, unused, live}
 use Rattle.rules.specs.Tables.{emptyChunk, emptyEntry, row, chunkAt, entryAt}
 use Rattle.rules.specs.Rebalance.{unusedCount}
 use Rattle.rules.specs.Shape.{liveCount}
-use Rattle.laws.proofs.Tests.{picked, by-test}
+use Rattle.laws.proofs.Tests.{by-test}
 use Rattle.laws.proofs.Lists.{getD-set, row-within, row-block, row-place}
 
 pub chunk-put : (cs : List Chunk) (d : ChunkNo) (x : Chunk) (c : ChunkNo) (P : Chunk → Type 0) → d .0 < length cs → (c ≡ d → P x) → (c ≢ d → P (chunkAt cs c)) → P (chunkAt (set cs (d .0) x) c)
 chunk-put cs d x c P b f g = getD-set cs (d .0) x emptyChunk (c .0) P b (λ e. f (ap chunkNo e)) (λ ne. g (λ e. ne (ap (λ (c : ChunkNo). c .0) e)))
+
+-- the same of any number
+pub chunk-either : (cs : List Chunk) (d : ChunkNo) (x : Chunk) (c : ChunkNo) (P : Chunk → Type 0) → (c ≡ d → P x) → P (chunkAt cs c) → P (chunkAt (set cs (d .0) x) c)
+chunk-either cs d x c P f g = elim (decLt (d .0) (length cs)) [ yes b ↦ chunk-put cs d x c P b f (λ _. g) | no out ↦ rw (set-out cs (d .0) x (omega arith)) g ]
 
 pub entry-put : (z : Sizes) (es : List Entry) (d : ChunkNo) (i : EntryNo) (x : Entry) (c : ChunkNo) (e : EntryNo) (P : Entry → Type 0) →
     length es ≡ z .chunks * z .entries → d .0 < z .chunks → i .0 < z .entries → e .0 < z .entries →

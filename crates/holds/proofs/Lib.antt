@@ -1,0 +1,5 @@
+pub mod Publishing
+pub mod Holding
+pub mod Marking
+pub mod Marks
+pub mod Unlinked

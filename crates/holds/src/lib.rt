@@ -1,0 +1,1 @@
+// No function: the fact of publishers that every call keeps.

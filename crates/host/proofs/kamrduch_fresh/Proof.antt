@@ -1,0 +1,54 @@
+use Prim.Native.Nat.{_-_}
+use Rattle.host.proofs.Answering.{refused, reported}
+use borrow.Author.Needs.{needs}
+use Rattle.host.proofs.kamrduch_fresh.Statement.{statement}
+use Rattle.host.proofs.kamrduch_fresh.Tie as tie
+
+returns : tie.Need-returns
+returns c = refused _ _ _ (c .if1 .taken)
+
+fresh-requires : tie.Need-fresh-requires
+fresh-requires c κs = search needs
+
+tell-requires : tie.Need-tell-requires
+tell-requires c κs = search needs
+
+same-length : tie.Need-same-length
+same-length c = search needs
+
+same-length-2 : tie.Need-same-length-2
+same-length-2 c = search needs
+
+same-length-3 : tie.Need-same-length-3
+same-length-3 c = search needs
+
+same-length-4 : tie.Need-same-length-4
+same-length-4 c = search needs
+
+same-length-5 : tie.Need-same-length-5
+same-length-5 c = search needs
+
+same-length-6 : tie.Need-same-length-6
+same-length-6 c = search needs
+
+same-length-7 : tie.Need-same-length-7
+same-length-7 c = search needs
+
+returns-2 : tie.Need-returns-2
+returns-2 c = reported _ _ _ _ _ _ _ (c .before .before .before .before .before .before .before .before .before .before .before .before .before .before .before .before .before .before .before .before .before .before .before .if1 .left) (c .before .before .before .before .before .before .before .before .before .before .before .before .before .before .before .before .fresh .ensures) (c .before .before .tell .ensures)
+
+pub kamrduch-fresh-spec : {M : Type 1} → statement M
+kamrduch-fresh-spec =
+    tie.close
+    (tie.spec
+    returns
+    fresh-requires
+    tell-requires
+    same-length
+    same-length-2
+    same-length-3
+    same-length-4
+    same-length-5
+    same-length-6
+    same-length-7
+    returns-2)

@@ -1,0 +1,192 @@
+-- What a step leaves of the rows' names and of the handles' records, by what it does.
+use Prim.Native.Nat.{ℕ, _*_, _<_}
+use mathlib.Core.Path.{_≡_, refl, sym, ap, _∙_}
+use mathlib.Core.Logic.{_⊎_, inl, inr, _≢_}
+use mathlib.Core.Bool.{true}
+use mathlib.Core.List.{List}
+use native.Mathlib.Nat.{le-trans}
+use native.Mathlib.Decide.{ℕ-discrete}
+use native.Mathlib.Omega.{arith}
+use lib.Dec.{ltb}
+use lib.ListN.{length, getD, set, length-set}
+use lib.Seq.{getD-set-other}
+use borrow.Author.Tests.{ltb-true}
+use Rattle.rules.specs.declared.Sizes.{Sizes}
+use Rattle.rules.specs.declared.Task.{Task}
+use Rattle.rules.specs.declared.Entry.{Entry}
+use Rattle.rules.specs.declared.ChunkNo.{ChunkNo}
+use Rattle.rules.specs.declared.EntryNo.{EntryNo}
+use Rattle.rules.specs.declared.HandleNo.{HandleNo}
+use Rattle.rules.specs.declared.Write.{Write}
+use Rattle.rules.specs.declared.Write.the-variants as write
+use Rattle.rules.specs.Words.{NONE, entryNo, noHandle, noEntry}
+use Rattle.rules.specs.Tables.{Tables, emptyEntry, chunk, entryAt, entry, row, task, withTasks}
+use Rattle.rules.specs.Walks.{lowestFree}
+use Rattle.rules.specs.Stages
+use Rattle.laws.proofs.Tests.{picked}
+use Rattle.views.proofs.Rows.{entry-put}
+use Rattle.facts.specs.Facts.{Limited, Waits, Allowed, Kept}
+use Rattle.facts.specs.Simulates.{decides}
+use Rattle.handles.specs.Owned.{Row, NamedUnder}
+use Rattle.handles.proofs.Free.{free-unnamed}
+use Rattle.handles.proofs.Owning.{OwnedBy}
+use Rattle.holds.specs.Marked.{Marked}
+use Rattle.simulation.proofs.Acts.{Still, Swaps, Acts}
+
+-- the second row names what the first names, under the same key
+abbrev pub RowKept : Sizes → Entry → Entry → Type 0
+RowKept z x y = (y .handle ≡ x .handle) × (x .handle .0 < z .handles → y .key ≡ x .key)
+
+-- the row that a deciding swap has written
+pub record NewAt (z : Sizes) (s : Tables) (t : Task) (c : ChunkNo) (e : EntryNo) (y : Entry) : Type 0 where
+  pub swaps : Swaps z s t
+  pub chunk : c ≡ t .chunk
+  pub entry : e ≡ t .entry
+  pub handle : y .handle .0 ≡ t .new .0
+  pub key : y .key ≡ entryAt z (s .entries) (t .chunk) (t .entry) .key
+  pub decided : decides z s t ≡ true
+
+module _ (z : Sizes) (lim : Limited z) (s : Tables) (kept : Kept z s) (ts : List Task) where
+  -- the tables after the write
+  abbrev pub after : Write → Tables
+  after w = Stages.apply z (withTasks s ts) w
+
+  len : length (s .entries) ≡ z .chunks * z .entries
+  len = kept .tables .entries-sized
+
+  out : NONE < z .handles → ⊥
+  out b = omega (arith, lim .handles)
+
+  -- ---- writes that change no name
+  module _ (c : ChunkNo) (e : EntryNo) (at : Row z c e) where
+    abbrev Kept-as : Entry → Type 0
+    Kept-as y = RowKept z (entry z s c e) y
+
+    as-it-was : Kept-as (entry z s c e)
+    as-it-was = (refl, λ _. refl)
+
+    next-row : (es : List Entry) → length es ≡ z .chunks * z .entries → Kept-as (entryAt z es c e) → (d : ChunkNo) (f x : EntryNo) → Row z d f → Kept-as (entryAt z (set es (row z d f) (Stages.withNext (entry z s d f) x)) c e)
+    next-row es l was d f x to = entry-put z es d f (Stages.withNext (entry z s d f) x) c e Kept-as l (to .chunk) (to .entry) (at .entry) here (λ _. was)
+      where
+        here : c ≡ d → e ≡ f → Kept-as (Stages.withNext (entry z s d f) x)
+        here p q = rw (p, q) (refl, λ _. refl)
+
+    -- a slot taken named none before
+    slot-row : (d : ChunkNo) (k : ℕ) → d .0 < z .chunks → chunk s d .used < z .entries → Kept-as (entryAt z (set (s .entries) (row z d (entryNo (chunk s d .used))) (record { key = k; handle = noHandle; next = noEntry })) c e)
+    slot-row d k b room = entry-put z (s .entries) d (entryNo (chunk s d .used)) (record { key = k; handle = noHandle; next = noEntry }) c e Kept-as len b room (at .entry) here (λ _. as-it-was)
+      where
+        here : c ≡ d → e ≡ entryNo (chunk s d .used) → Kept-as (record { key = k; handle = noHandle; next = noEntry })
+        here p q = rw empty (refl, λ i. absurd (out i))
+          where
+            empty : entry z s c e ≡ emptyEntry
+            empty = kept .tables .lists c (at .chunk) .slot e (at .entry) .empty (omega (arith, ap (λ (e : EntryNo). e .0) q, ap (λ (c : ChunkNo). chunk s c .used) p))
+
+    still-row : (w : Write) → Still w → Allowed z (s .chunks) (s .entries) w → Kept-as (entry z (after w) c e)
+    still-row write.Nothing v a = as-it-was
+    still-row (write.Slot d k) v a = slot-row d k (a .0) (a .2)
+    still-row (write.Link d f before) v a =
+        picked (λ (x : Tables). Kept-as (entryAt z (x .entries) c e)) (ltb (before .0) (z .entries))
+        (λ i. next-row (set (s .entries) (row z d f) (Stages.withNext (entry z s d f) (entry z s d before .next))) (length-set (s .entries) (row z d f) _ ∙ len) (next-row (s .entries) len as-it-was d f (entry z s d before .next) to) d before f (record { chunk = w .numbered; entry = ltb-true _ _ i }))
+        (λ _. next-row (s .entries) len as-it-was d f (chunk s d .head) to)
+      where
+        w : Waits z (s .chunks) (s .entries) d f before (a .0)
+        w = a .1
+
+        to : Row z d f
+        to = record { chunk = w .numbered; entry = le-trans (w .used) (kept .tables .lists d (w .numbered) .row .used) }
+    still-row (write.Fresh h) v a = absurd v
+    still-row (write.Store h x) v a = absurd v
+    still-row (write.Delete h) v a = absurd v
+    still-row (write.Name d f h) v a = absurd v
+
+    -- a row that is not the one named
+    name-row : (d : ChunkNo) (f : EntryNo) (h : HandleNo) → Row z d f → (c ≡ d → e ≡ f → ⊥) → Kept-as (entryAt z (set (s .entries) (row z d f) (Stages.withHandle (entry z s d f) h)) c e)
+    name-row d f h to ne = entry-put z (s .entries) d f (Stages.withHandle (entry z s d f) h) c e Kept-as len (to .chunk) (to .entry) (at .entry) (λ p q. absurd (ne p q)) (λ _. as-it-was)
+
+  still-records : (w : Write) → Still w → (after w .marks ≡ s .marks) × (after w .values ≡ s .values)
+  still-records write.Nothing v = (refl, refl)
+  still-records (write.Slot d k) v = (refl, refl)
+  still-records (write.Link d f before) v = picked (λ (x : Tables). (x .marks ≡ s .marks) × (x .values ≡ s .values)) (ltb (before .0) (z .entries)) (λ _. (refl, refl)) (λ _. (refl, refl))
+  still-records (write.Fresh h) v = absurd v
+  still-records (write.Store h x) v = absurd v
+  still-records (write.Delete h) v = absurd v
+  still-records (write.Name d f h) v = absurd v
+
+  -- ---- a step of a task
+  module _ (n : ℕ) where
+    abbrev t : Task
+    t = task s n
+
+    -- rows of chunks on which the task does not publish
+    pub frame : {w : Write} → Acts z s t w → Allowed z (s .chunks) (s .entries) w → (c : ChunkNo) (e : EntryNo) → Row z c e → (t .published ≡ 1 → c ≢ t .chunk) → RowKept z (entry z s c e) (entry z (after w) c e)
+    frame (Acts.still {w = w} v u) a c e at ne = still-row c e at w v a
+    frame (Acts.takes b u) a c e at ne = (refl, λ _. refl)
+    frame (Acts.writes b q u) a c e at ne = (refl, λ _. refl)
+    frame (Acts.stores v b q i u) a c e at ne = (refl, λ _. refl)
+    frame (Acts.deletes b q i u) a c e at ne = (refl, λ _. refl)
+    frame (Acts.names x b q le i u) a c e at ne = name-row c e at (t .chunk) (t .entry) (t .new) (x .row) (λ p _. ne (x .published) p)
+    frame (Acts.drops x u) a c e at ne = name-row c e at (t .chunk) (t .entry) noHandle (x .row) (λ p _. ne (x .published) p)
+
+    -- a row that names an undeleted handle
+    pub row-then : Marked z s → {w : Write} → Acts z s t w → Allowed z (s .chunks) (s .entries) w → (c : ChunkNo) (e : EntryNo) → Row z c e → entry z s c e .handle .0 < z .handles → getD (s .marks) (entry z s c e .handle .0) 0 ≡ 0 → RowKept z (entry z s c e) (entry z (after w) c e)
+    row-then marked {w = w} act a c e at b m = go act a
+      where
+        -- a successful swap is of an entry that names a deleted handle, or none
+        other : Swaps z s t → c ≡ t .chunk → e ≡ t .entry → ⊥
+        other x p q = omega (arith, m, rw (← named) at (marked .old-deleted n (x .past .0) (x .past .1) (rw named at b)))
+          where
+            named : entry z s c e .handle .0 ≡ t .old .0
+            named = rw (p, q) (x .names)
+
+        go : {w : Write} → Acts z s t w → Allowed z (s .chunks) (s .entries) w → RowKept z (entry z s c e) (entry z (after w) c e)
+        go (Acts.still {w = w} v u) a = still-row c e at w v a
+        go (Acts.takes b u) a = (refl, λ _. refl)
+        go (Acts.writes b q u) a = (refl, λ _. refl)
+        go (Acts.stores v b q i u) a = (refl, λ _. refl)
+        go (Acts.deletes b q i u) a = (refl, λ _. refl)
+        go (Acts.names x b q le i u) a = name-row c e at (t .chunk) (t .entry) (t .new) (x .row) (other x)
+        go (Acts.drops x u) a = name-row c e at (t .chunk) (t .entry) noHandle (x .row) (other x)
+
+    -- a row that names a handle afterwards named it before, or is the one that a deciding swap has written
+    pub row-back : {w : Write} → Acts z s t w → Allowed z (s .chunks) (s .entries) w → (c : ChunkNo) (e : EntryNo) → Row z c e → entry z (after w) c e .handle .0 < z .handles → RowKept z (entry z s c e) (entry z (after w) c e) ⊎ NewAt z s t c e (entry z (after w) c e)
+    row-back (Acts.still {w = w} v u) a c e at b = inl (still-row c e at w v a)
+    row-back (Acts.takes d u) a c e at b = inl (refl, λ _. refl)
+    row-back (Acts.writes d q u) a c e at b = inl (refl, λ _. refl)
+    row-back (Acts.stores v d q i u) a c e at b = inl (refl, λ _. refl)
+    row-back (Acts.deletes d q i u) a c e at b = inl (refl, λ _. refl)
+    row-back (Acts.names x d q le i u) a c e at b =
+        entry-put z (s .entries) (t .chunk) (t .entry) (Stages.withHandle (entry z s (t .chunk) (t .entry)) (t .new)) c e (λ y. RowKept z (entry z s c e) y ⊎ NewAt z s t c e y) len (x .row .chunk) (x .row .entry) (at .entry)
+        (λ p q. inr (record { swaps = x; chunk = p; entry = q; handle = refl; key = refl; decided = u })) (λ _. inl (refl, λ _. refl))
+    row-back (Acts.drops x u) a c e at b =
+        entry-put z (s .entries) (t .chunk) (t .entry) (Stages.withHandle (entry z s (t .chunk) (t .entry)) noHandle) c e (λ y. y .handle .0 < z .handles → RowKept z (entry z s c e) y ⊎ NewAt z s t c e y) len (x .row .chunk) (x .row .entry) (at .entry)
+        (λ p q i. absurd (out i)) (λ _ _. inl (refl, λ _. refl)) b
+
+    -- ---- the handles' records
+    -- what is undeleted afterwards was so, but for the handle taken
+    pub mark-back : {w : Write} → Acts z s t w → (h : ℕ) → (lowestFree z s .0 < z .handles → h ≢ lowestFree z s .0) → getD (after w .marks) h 0 ≡ 0 → getD (s .marks) h 0 ≡ 0
+    mark-back (Acts.still {w = w} v u) h ne m = rw (still-records w v .0) at m
+    mark-back (Acts.takes b u) h ne m = sym (getD-set-other (s .marks) (lowestFree z s .0) h 0 0 (ne b)) ∙ m
+    mark-back (Acts.writes b q u) h ne m = m
+    mark-back (Acts.stores v b q i u) h ne m = m
+    mark-back (Acts.deletes b q i u) h ne m = elim (ℕ-discrete h (t .old .0)) [ yes p ↦ ap (λ (h : ℕ). getD (s .marks) h 0) p ∙ q | no np ↦ sym (getD-set-other (s .marks) (t .old .0) h 1 0 np) ∙ m ]
+    mark-back (Acts.names x b q le i u) h ne m = m
+    mark-back (Acts.drops x u) h ne m = m
+
+    -- the record of a named handle is as it was, but for the key at which the step decides
+    pub record-same : OwnedBy z s → {w : Write} → Acts z s t w → (h k : ℕ) → h < z .handles → NamedUnder z (s .entries) h k → (decides z s t ≡ true → k ≢ t .key) → (getD (after w .marks) h 0 ≡ getD (s .marks) h 0) × (getD (after w .values) h 0 ≡ getD (s .values) h 0)
+    record-same own {w = w} act h k b v far = go act
+      where
+        not-old : t .old .0 < z .handles → decides z s t ≡ true → h ≢ t .old .0
+        not-old i u p = far u (own .old-key n k i (rw p at v))
+
+        go : {w : Write} → Acts z s t w → (getD (after w .marks) h 0 ≡ getD (s .marks) h 0) × (getD (after w .values) h 0 ≡ getD (s .values) h 0)
+        go (Acts.still {w = w} x u) = rw (still-records w x .0, still-records w x .1) (refl, refl)
+        go (Acts.takes i u) = (getD-set-other (s .marks) (lowestFree z s .0) h 0 0 ne, getD-set-other (s .values) (lowestFree z s .0) h 0 0 ne)
+          where
+            ne : h ≢ lowestFree z s .0
+            ne p = free-unnamed z (lim .handles) s len i (v .chunk) (v .entry) (v .row) (v .names ∙ p)
+        go (Acts.writes i q u) = (refl, getD-set-other (s .values) (t .new .0) h (t .argument) 0 (λ p. own .new-own n i q .unnamed (v .chunk) (v .entry) (v .row) (v .names ∙ p)))
+        go (Acts.stores x i q j u) = (refl, getD-set-other (s .values) (t .old .0) h x 0 (not-old i u))
+        go (Acts.deletes i q j u) = (getD-set-other (s .marks) (t .old .0) h 1 0 (not-old i u), refl)
+        go (Acts.names x i q le j u) = (refl, refl)
+        go (Acts.drops x u) = (refl, refl)

@@ -1,0 +1,1 @@
+// No function: what the tables show is what the sequential map holds.
