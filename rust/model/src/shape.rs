@@ -122,12 +122,18 @@ impl Tables {
     }
 }
 
+impl Entry {
+    fn is_empty(&self) -> bool {
+        self.key == 0 && self.handle.is_none() && self.next.is_none()
+    }
+}
+
 impl Chunk {
     fn shape(&self) -> bool {
-        if self.status == Status::Unused {
-            return *self == Chunk::default();
+        if self.status == Status::Unused && (self.frozen || self.min != 0 || self.next.is_some() || self.head.is_some() || self.used != 0) {
+            return false;
         }
-        self.used <= ENTRIES && self.entries[self.used..].iter().all(|e| *e == Entry::default()) && self.list_shape()
+        self.entries[self.used..].iter().all(Entry::is_empty) && self.list_shape()
     }
 
     /// The list is of used entries, keys strictly ascending, so that it ends.
