@@ -90,7 +90,7 @@ enum kamrduch_operation {
     KAMRDUCH_GET = 1,           /* answers a value or absent */
     KAMRDUCH_PUT = 2,           /* done */
     KAMRDUCH_PUT_IF_ABSENT = 3, /* true or false */
-    KAMRDUCH_UPSERT = 4,        /* done; the argument is stored where the key is absent, else the function's amount */
+    KAMRDUCH_UPSERT = 4,        /* done; stores the argument where the key is absent, else applies the function with it */
     KAMRDUCH_COMPUTE = 5,       /* true or false */
     KAMRDUCH_REMOVE = 6,        /* true or false */
     KAMRDUCH_SCAN = 7           /* pairs from the key up to the argument, left out; then done */

@@ -4,13 +4,99 @@ use model::{Report, Tables};
 use std::io::{Read, Write};
 use std::process::{Child, Command, Stdio};
 
+pub mod damage;
+pub mod runs;
+pub mod states;
+
 mod linked {
     extern "C" {
-        pub fn kamrduch_fresh(d: *mut u64, dn: usize, t: *mut u64, tn: usize, c: *mut u64, cn: usize, e: *mut u64, en: usize, v: *mut u64, vn: usize, m: *mut u64, mn: usize, a: *mut u64, an: usize) -> u64;
-        pub fn kamrduch_start(d: *const u64, dn: usize, t: *mut u64, tn: usize, c: *const u64, cn: usize, e: *const u64, en: usize, v: *const u64, vn: usize, m: *const u64, mn: usize, n: u64, op: u64, k: u64, arg: u64, f: u64, a: *mut u64, an: usize) -> u64;
-        pub fn kamrduch_step(d: *const u64, dn: usize, t: *mut u64, tn: usize, c: *mut u64, cn: usize, e: *mut u64, en: usize, v: *mut u64, vn: usize, m: *mut u64, mn: usize, n: u64, a: *mut u64, an: usize) -> u64;
-        pub fn kamrduch_begin(d: *mut u64, dn: usize, t: *const u64, tn: usize, c: *mut u64, cn: usize, e: *const u64, en: usize, v: *const u64, vn: usize, m: *const u64, mn: usize, k: u64, a: *mut u64, an: usize) -> u64;
-        pub fn kamrduch_rebalance(d: *mut u64, dn: usize, t: *const u64, tn: usize, c: *mut u64, cn: usize, e: *mut u64, en: usize, v: *const u64, vn: usize, m: *const u64, mn: usize, a: *mut u64, an: usize) -> u64;
+        pub fn kamrduch_fresh(
+            d: *mut u64,
+            dn: usize,
+            t: *mut u64,
+            tn: usize,
+            c: *mut u64,
+            cn: usize,
+            e: *mut u64,
+            en: usize,
+            v: *mut u64,
+            vn: usize,
+            m: *mut u64,
+            mn: usize,
+            a: *mut u64,
+            an: usize,
+        ) -> u64;
+        pub fn kamrduch_start(
+            d: *const u64,
+            dn: usize,
+            t: *mut u64,
+            tn: usize,
+            c: *const u64,
+            cn: usize,
+            e: *const u64,
+            en: usize,
+            v: *const u64,
+            vn: usize,
+            m: *const u64,
+            mn: usize,
+            n: u64,
+            op: u64,
+            k: u64,
+            arg: u64,
+            f: u64,
+            a: *mut u64,
+            an: usize,
+        ) -> u64;
+        pub fn kamrduch_step(
+            d: *const u64,
+            dn: usize,
+            t: *mut u64,
+            tn: usize,
+            c: *mut u64,
+            cn: usize,
+            e: *mut u64,
+            en: usize,
+            v: *mut u64,
+            vn: usize,
+            m: *mut u64,
+            mn: usize,
+            n: u64,
+            a: *mut u64,
+            an: usize,
+        ) -> u64;
+        pub fn kamrduch_begin(
+            d: *mut u64,
+            dn: usize,
+            t: *const u64,
+            tn: usize,
+            c: *mut u64,
+            cn: usize,
+            e: *const u64,
+            en: usize,
+            v: *const u64,
+            vn: usize,
+            m: *const u64,
+            mn: usize,
+            k: u64,
+            a: *mut u64,
+            an: usize,
+        ) -> u64;
+        pub fn kamrduch_rebalance(
+            d: *mut u64,
+            dn: usize,
+            t: *const u64,
+            tn: usize,
+            c: *mut u64,
+            cn: usize,
+            e: *mut u64,
+            en: usize,
+            v: *const u64,
+            vn: usize,
+            m: *const u64,
+            mn: usize,
+            a: *mut u64,
+            an: usize,
+        ) -> u64;
     }
 }
 
@@ -53,7 +139,12 @@ impl Host {
         let Ok(command) = std::env::var("KAMRDUCH_LEND") else { return Host::Linked };
         let mut words = command.split_whitespace();
         let mut command = Command::new(words.next().expect("KAMRDUCH_LEND names a program"));
-        let child = command.args(words).stdin(Stdio::piped()).stdout(Stdio::piped()).spawn().expect("the program of KAMRDUCH_LEND runs");
+        let child = command
+            .args(words)
+            .stdin(Stdio::piped())
+            .stdout(Stdio::piped())
+            .spawn()
+            .expect("the program of KAMRDUCH_LEND runs");
         Host::Lent(Box::new(child))
     }
 

@@ -22,7 +22,11 @@ impl Tables {
             return Report::Refused(4);
         }
         let function = if operation.uses_function() { function } else { 0 };
-        let argument = if matches!(operation, Operation::Get | Operation::Remove) { 0 } else { argument };
+        let argument = if matches!(operation, Operation::Get | Operation::Remove) {
+            0
+        } else {
+            argument
+        };
         *task = Some(Task::at_start(operation, function, key, argument));
         Report::MovedOn
     }

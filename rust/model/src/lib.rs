@@ -228,7 +228,10 @@ impl Operation {
 impl Chunk {
     /// The linked entries, in order.
     pub fn linked(&self) -> Linked<'_> {
-        Linked { entries: &self.entries, at: self.head }
+        Linked {
+            entries: &self.entries,
+            at: self.head,
+        }
     }
 
     pub fn find(&self, key: u64) -> Option<EntryNo> {

@@ -80,9 +80,18 @@ impl Tables {
 impl Chunk {
     /// A new chunk with these entries, linked in order.
     fn copied(min: u64, taken: &[Entry]) -> Chunk {
-        let mut c = Chunk { status: Status::New, min, used: taken.len(), head: (!taken.is_empty()).then_some(0), ..Chunk::default() };
+        let mut c = Chunk {
+            status: Status::New,
+            min,
+            used: taken.len(),
+            head: (!taken.is_empty()).then_some(0),
+            ..Chunk::default()
+        };
         for (i, e) in taken.iter().enumerate() {
-            c.entries[i] = Entry { next: (i + 1 < taken.len()).then_some(i + 1), ..*e };
+            c.entries[i] = Entry {
+                next: (i + 1 < taken.len()).then_some(i + 1),
+                ..*e
+            };
         }
         c
     }

@@ -32,14 +32,26 @@ impl Tables {
 
     fn stage(&mut self, t: Task) -> Outcome {
         match t.stage {
-            Stage::Locate => Goes(Task { stage: Stage::Find, chunk: Some(self.locate(t.key)), ..t }),
+            Stage::Locate => Goes(Task {
+                stage: Stage::Find,
+                chunk: Some(self.locate(t.key)),
+                ..t
+            }),
             Stage::Find => match self.held_chunk(&t).find(t.key) {
-                Some(e) => Goes(Task { stage: Stage::Read, entry: Some(e), ..t }),
+                Some(e) => Goes(Task {
+                    stage: Stage::Read,
+                    entry: Some(e),
+                    ..t
+                }),
                 None if t.operation.inserts() => Goes(Task { stage: Stage::TakeEntry, ..t }),
                 None => absent(&t),
             },
             Stage::Read => match self.held_entry(&t).handle {
-                Some(h) => Goes(Task { stage: Stage::Check, old: Some(h), ..t }),
+                Some(h) => Goes(Task {
+                    stage: Stage::Check,
+                    old: Some(h),
+                    ..t
+                }),
                 None if t.operation.inserts() => Goes(Task { stage: Stage::TakeHandle, ..t }),
                 None => absent(&t),
             },
@@ -51,7 +63,11 @@ impl Tables {
                 None => NoHandle,
                 Some(h) => {
                     self.handles[h] = Handle { value: 0, deleted: false };
-                    Goes(Task { stage: Stage::Write, new: Some(h), ..t })
+                    Goes(Task {
+                        stage: Stage::Write,
+                        new: Some(h),
+                        ..t
+                    })
                 }
             },
             Stage::Write => {
@@ -62,35 +78,62 @@ impl Tables {
             Stage::PublishAbsence => self.publish(t, Stage::SwapAbsence),
             Stage::PublishRemoval => {
                 if self.held_chunk(&t).frozen {
-                    Goes(Task { stage: Stage::LocateAgain, chunk: None, entry: None, ..t })
+                    Goes(Task {
+                        stage: Stage::LocateAgain,
+                        chunk: None,
+                        entry: None,
+                        ..t
+                    })
                 } else {
                     self.publish(t, Stage::SwapRemoval)
                 }
             }
             Stage::Swap => {
                 let swapped = self.swap(&t, t.new);
-                Goes(Task { stage: Stage::Unpublish, swapped, ..t })
+                Goes(Task {
+                    stage: Stage::Unpublish,
+                    swapped,
+                    ..t
+                })
             }
             Stage::SwapAbsence => {
                 let swapped = self.swap(&t, None);
-                Goes(Task { stage: Stage::UnpublishAbsence, swapped, ..t })
+                Goes(Task {
+                    stage: Stage::UnpublishAbsence,
+                    swapped,
+                    ..t
+                })
             }
             Stage::SwapRemoval => {
                 self.swap(&t, None);
-                Goes(Task { stage: Stage::UnpublishRemoval, ..t })
+                Goes(Task {
+                    stage: Stage::UnpublishRemoval,
+                    ..t
+                })
             }
             Stage::Unpublish if !t.swapped => Restarts(Restart::Lost),
             Stage::Unpublish => Finishes(if t.operation == Operation::PutIfAbsent { Answer::True } else { Answer::Done }),
             Stage::UnpublishAbsence if !t.swapped => Restarts(Restart::Lost),
             Stage::UnpublishAbsence => absent(&t),
-            Stage::LocateAgain => Goes(Task { stage: Stage::FindAgain, chunk: Some(self.locate(t.key)), ..t }),
+            Stage::LocateAgain => Goes(Task {
+                stage: Stage::FindAgain,
+                chunk: Some(self.locate(t.key)),
+                ..t
+            }),
             Stage::FindAgain => match self.held_chunk(&t).find(t.key) {
-                Some(e) => Goes(Task { stage: Stage::ReadAgain, entry: Some(e), ..t }),
+                Some(e) => Goes(Task {
+                    stage: Stage::ReadAgain,
+                    entry: Some(e),
+                    ..t
+                }),
                 None => Finishes(Answer::True),
             },
             Stage::ReadAgain => {
                 if self.held_entry(&t).handle == t.old {
-                    Goes(Task { stage: Stage::PublishRemoval, ..t })
+                    Goes(Task {
+                        stage: Stage::PublishRemoval,
+                        ..t
+                    })
                 } else {
                     Finishes(Answer::True)
                 }
@@ -112,7 +155,10 @@ impl Tables {
         let h = self.handles[t.old.unwrap()];
         match (h.deleted, t.operation) {
             (true, Operation::Get) => Finishes(Answer::Absent),
-            (true, Operation::Compute | Operation::Remove) => Goes(Task { stage: Stage::PublishAbsence, ..t }),
+            (true, Operation::Compute | Operation::Remove) => Goes(Task {
+                stage: Stage::PublishAbsence,
+                ..t
+            }),
             (true, _) => Goes(Task { stage: Stage::TakeHandle, ..t }),
             (false, Operation::Get) => Finishes(Answer::Value(h.value)),
             (false, Operation::PutIfAbsent) => Finishes(Answer::False),
@@ -125,7 +171,10 @@ impl Tables {
         if h.deleted {
             return match t.operation {
                 Operation::Put | Operation::Upsert => Restarts(Restart::Lost),
-                _ => Goes(Task { stage: Stage::PublishAbsence, ..t }),
+                _ => Goes(Task {
+                    stage: Stage::PublishAbsence,
+                    ..t
+                }),
             };
         }
         match t.operation {
@@ -135,7 +184,12 @@ impl Tables {
             }
             Operation::Remove => {
                 h.deleted = true;
-                Goes(Task { stage: Stage::LocateAgain, chunk: None, entry: None, ..t })
+                Goes(Task {
+                    stage: Stage::LocateAgain,
+                    chunk: None,
+                    entry: None,
+                    ..t
+                })
             }
             _ => {
                 h.value = Function::of(t.function).unwrap().applied(h.value, t.argument);
@@ -154,8 +208,16 @@ impl Tables {
         }
         let e = c.used;
         c.used += 1;
-        c.entries[e] = Entry { key: t.key, handle: None, next: None };
-        Goes(Task { stage: Stage::Link, entry: Some(e), ..t })
+        c.entries[e] = Entry {
+            key: t.key,
+            handle: None,
+            next: None,
+        };
+        Goes(Task {
+            stage: Stage::Link,
+            entry: Some(e),
+            ..t
+        })
     }
 
     fn link(&mut self, t: Task) -> Outcome {
@@ -164,7 +226,11 @@ impl Tables {
             return Restarts(Restart::Frozen);
         }
         if let Some(e) = c.find(t.key) {
-            return Goes(Task { stage: Stage::TakeHandle, entry: Some(e), ..t });
+            return Goes(Task {
+                stage: Stage::TakeHandle,
+                entry: Some(e),
+                ..t
+            });
         }
         let before = c.linked().take_while(|(_, e)| e.key < t.key).last().map(|(n, _)| n);
         let e = t.entry.unwrap();
@@ -185,7 +251,11 @@ impl Tables {
         if self.held_chunk(&t).frozen {
             Restarts(Restart::Frozen)
         } else {
-            Goes(Task { stage: on, published: true, ..t })
+            Goes(Task {
+                stage: on,
+                published: true,
+                ..t
+            })
         }
     }
 
@@ -212,7 +282,10 @@ impl Tables {
             }
         }
         match c.next {
-            Some(next) => Goes(Task { key: self.chunks[next].min, ..t }),
+            Some(next) => Goes(Task {
+                key: self.chunks[next].min,
+                ..t
+            }),
             None => Finishes(Answer::Done),
         }
     }

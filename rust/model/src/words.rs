@@ -85,7 +85,10 @@ impl Tables {
             t.chunks[n] = chunk(row, &entries[n * ENTRIES * 3..(n + 1) * ENTRIES * 3])?;
         }
         for h in 0..HANDLES {
-            t.handles[h] = Handle { value: values[h], deleted: flag(marks[h])? };
+            t.handles[h] = Handle {
+                value: values[h],
+                deleted: flag(marks[h])?,
+            };
         }
         Some(t)
     }
@@ -187,7 +190,11 @@ fn chunk(row: &[u64], slots: &[u64]) -> Option<Chunk> {
         entries: [Entry::default(); ENTRIES],
     };
     for (e, x) in slots.chunks(3).enumerate() {
-        c.entries[e] = Entry { key: x[0], handle: optional(x[1], HANDLES)?, next: optional(x[2], ENTRIES)? };
+        c.entries[e] = Entry {
+            key: x[0],
+            handle: optional(x[1], HANDLES)?,
+            next: optional(x[2], ENTRIES)?,
+        };
     }
     Some(c)
 }

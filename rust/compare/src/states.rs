@@ -1,0 +1,242 @@
+//! States that are measured: reached from fresh by the second implementation's own calls.
+use crate::{Call, Chance};
+use model::words::{blank, Words};
+use model::{Rebalance, Report, Restart, Stage, Tables, TASKS};
+
+/// A state, and the call that is measured on it.
+pub struct Case {
+    pub name: String,
+    pub tables: Tables,
+    pub words: Words,
+    pub call: Call,
+}
+
+fn working(t: &Tables, n: usize) -> u64 {
+    t.tasks[n].map_or(0, |t| t.stage.number())
+}
+
+/// A rebalance of the key's chunk, to its end.
+fn rebalance(t: &mut Tables, key: u64) {
+    t.begin(key);
+    while t.rebalance() == Report::MovedOn {}
+}
+
+/// An operation of task 0 to its end; a full chunk is rebalanced.
+pub fn operate(t: &mut Tables, op: u64, key: u64, argument: u64) -> u64 {
+    assert_eq!(t.start(0, op, key, argument, 1), Report::MovedOn);
+    for calls in 2.. {
+        match t.step(0) {
+            Report::MovedOn | Report::Pair(..) => {}
+            Report::Restarted(Restart::Full) => rebalance(t, key),
+            Report::Finished(_) => return calls,
+            other => panic!("{other:?}"),
+        }
+    }
+    0
+}
+
+/// Keys that are put in random order.
+pub fn with_keys(count: u64) -> (Tables, Vec<u64>) {
+    let (mut t, mut r) = (Tables::fresh(), Chance::new(count));
+    let mut keys: Vec<u64> = (1..=count).map(|i| i * 1000).collect();
+    for i in (1..keys.len()).rev() {
+        let j = r.below(i + 1);
+        keys.swap(i, j);
+    }
+    for &k in &keys {
+        operate(&mut t, 2, k, k);
+    }
+    (t, keys)
+}
+
+fn chain(t: &Tables) -> Vec<usize> {
+    let mut chain = vec![t.first];
+    while let Some(next) = t.chunks[chain[chain.len() - 1]].next {
+        chain.push(next);
+    }
+    chain
+}
+
+/// So many live chunks of 16 keys each, the last of up to 32.
+pub fn with_chunks(count: usize) -> Tables {
+    let mut t = Tables::fresh();
+    for k in 1.. {
+        operate(&mut t, 2, k * 1000, k);
+        if chain(&t).len() == count && (count > 1 || k == 16) {
+            break;
+        }
+    }
+    t
+}
+
+/// So many live chunks, every list of 32 linked entries, the last chunk's of 31; so many keys present, in the chunks of the highest
+/// numbers.
+pub fn long_lists(chunks: usize, present: usize) -> Tables {
+    let mut t = with_chunks(chunks);
+    let chain = chain(&t);
+    let end = chain[chunks - 1];
+    let mut numbers: Vec<usize> = chain.iter().copied().filter(|&c| c != end).collect();
+    numbers.sort();
+    let mut left = present - 31;
+    let mut keeps = vec![(end, 31, 31)];
+    for c in numbers.into_iter().rev() {
+        keeps.push((c, 32, left.min(32)));
+        left -= left.min(32);
+    }
+    for (c, length, keep) in keeps.into_iter().rev() {
+        let keys: Vec<u64> = t.chunks[c].linked().map(|(_, e)| e.key).collect();
+        for &k in keys.iter().take(keys.len().saturating_sub(keep)) {
+            operate(&mut t, 6, k, 0);
+        }
+        let mut named = keys.len().min(keep);
+        let last = last_key(&t, c);
+        for k in (last + 1..).take(length - keys.len()) {
+            operate(&mut t, 2, k, k);
+            named += 1;
+            if named > keep {
+                operate(&mut t, 6, k, 0);
+                named -= 1;
+            }
+        }
+        assert_eq!(t.chunks[c].linked().count(), length);
+    }
+    t
+}
+
+/// The live chunks but the last whose linked entries all name a handle, the highest number last.
+fn all_naming(t: &Tables) -> Vec<usize> {
+    let mut chain = chain(t);
+    chain.pop();
+    chain.retain(|&c| t.chunks[c].linked().all(|(_, e)| e.handle.is_some()));
+    chain.sort();
+    chain
+}
+
+/// Seven tasks at stage 5, each at the end of a list of 32.
+pub fn busy(mut t: Tables) -> Tables {
+    let chunks = all_naming(&t);
+    for (n, &c) in (1..TASKS).zip(chunks.iter().rev().cycle()) {
+        let key = last_key(&t, c);
+        t.start(n as u64, 2, key, 7, 0);
+        while working(&t, n) != 5 {
+            t.step(n as u64);
+        }
+    }
+    t
+}
+
+/// 31 live chunks and a retired one, every list long, 559 keys present.
+pub fn heavy() -> Tables {
+    let mut t = long_lists(30, 559);
+    let old = *all_naming(&t).last().unwrap();
+    t.begin(last_key(&t, old));
+    for _ in 0..3 {
+        assert_eq!(t.rebalance(), Report::MovedOn);
+    }
+    let Rebalance::Release(_, new, Some(second)) = t.rebalance else {
+        panic!("two new chunks")
+    };
+    for c in [new, second] {
+        let first = t.chunks[c].linked().next().unwrap().1.key;
+        let absent: Vec<u64> = (first + 1..).filter(|&k| t.chunks[c].find(k).is_none()).take(16).collect();
+        for &k in &absent {
+            operate(&mut t, 2, k, k);
+            operate(&mut t, 6, k, 0);
+        }
+        assert_eq!(t.chunks[c].linked().count(), 32);
+    }
+    busy(t)
+}
+
+fn last_key(t: &Tables, c: usize) -> u64 {
+    t.chunks[c].linked().last().unwrap().1.key
+}
+
+fn last_naming(t: &Tables, c: usize) -> u64 {
+    t.chunks[c].linked().filter(|(_, e)| e.handle.is_some()).last().unwrap().1.key
+}
+
+/// Task 0 at the stage, with the last key of the last chunk or the one after it.
+pub fn at_stage(t: &Tables, stage: Stage) -> Tables {
+    let (mut t, n) = (t.clone(), stage.number());
+    let key = last_naming(&t, chain(&t)[chain(&t).len() - 1]);
+    let (op, key) = match n {
+        1..=4 => (1, key),
+        5 => (2, key),
+        6..=12 => (2, last_key(&t, t.locate(key)) + 1),
+        13..=15 => {
+            let busy = (1..TASKS).find(|&i| t.tasks[i].is_none()).unwrap_or(7);
+            t.tasks[busy] = None;
+            t.start(busy as u64, 6, key, 0, 0);
+            while working(&t, busy) != 16 {
+                t.step(busy as u64);
+            }
+            (5, key)
+        }
+        16..=21 => (6, key),
+        _ => (7, key),
+    };
+    t.start(0, op, key, u64::MAX, 1);
+    while working(&t, 0) != n {
+        assert_eq!(t.step(0), Report::MovedOn, "on the way to stage {n}");
+    }
+    t
+}
+
+pub fn case(name: &str, tables: Tables, call: Call) -> Case {
+    let mut words = blank();
+    tables.to_words(&mut words);
+    Case {
+        name: name.to_string(),
+        tables,
+        words,
+        call,
+    }
+}
+
+const STAGES: [&str; 22] = [
+    "1 locate",
+    "2 find",
+    "3 read",
+    "4 check",
+    "5 apply",
+    "6 take entry",
+    "7 link",
+    "8 take handle",
+    "9 write",
+    "10 publish",
+    "11 swap",
+    "12 unpublish",
+    "13 publish",
+    "14 swap to none",
+    "15 unpublish",
+    "16 locate again",
+    "17 find again",
+    "18 read again",
+    "19 publish",
+    "20 swap to none",
+    "21 unpublish",
+    "22 scan",
+];
+
+/// Every stage of a task on one state, and of the rebalance on another that has two unused chunks.
+pub fn all_stages(steps: &Tables, rebalances: &Tables) -> Vec<Case> {
+    let key = last_key(steps, chain(steps)[chain(steps).len() - 1]);
+    let mut cases = vec![
+        case("the shape alone (a start refused by 1)", steps.clone(), Call::Start(8, 1, 0, 0, 0)),
+        case("fresh", steps.clone(), Call::Fresh),
+        case("start", steps.clone(), Call::Start(0, 1, key, 0, 0)),
+    ];
+    for (stage, name) in Stage::ALL.into_iter().zip(STAGES) {
+        cases.push(case(name, at_stage(steps, stage), Call::Step(0)));
+    }
+    let mut t = rebalances.clone();
+    let key = last_key(&t, chain(&t)[chain(&t).len() - 1]);
+    cases.push(case("begin", t.clone(), Call::Begin(key)));
+    assert_eq!(t.begin(key), Report::MovedOn);
+    for name in ["drain", "copy", "swap in", "release"] {
+        cases.push(case(name, t.clone(), Call::Rebalance));
+        assert!(matches!(t.rebalance(), Report::MovedOn | Report::Released), "{name}");
+    }
+    cases
+}
