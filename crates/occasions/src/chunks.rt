@@ -26,11 +26,11 @@ pub fn thirty_one(
     marks: &mut [u64; 560],
 ) {
     work::title(b"31 live chunks");
-    directory::fresh(directory, tasks, chunks, entries, values, marks);
+    work::fresh(directory, tasks, chunks, entries, values, marks);
     fill(directory, tasks, chunks, entries, values, marks);
     work::count(b"live chunks: ", work::live(chunks));
-    let r = directory::begin(directory, tasks, chunks, entries, values, marks, 1);
+    let r = work::begin(directory, tasks, chunks, entries, values, marks, 1);
     work::say(b"begin: ", r);
-    let r = directory::rebalance(directory, tasks, chunks, entries, values, marks);
+    let r = work::go_on(directory, tasks, chunks, entries, values, marks);
     work::say(b"rebalance: ", r);
 }

@@ -90,19 +90,7 @@ fn hold_two(
     n: u64,
 ) {
     let k = key(n);
-    directory::start(
-        directory,
-        tasks,
-        chunks,
-        entries,
-        values,
-        marks,
-        n,
-        2,
-        k,
-        0,
-        0,
-    );
+    work::start(directory, tasks, chunks, entries, values, marks, n, 2, k, 0);
     work::steps(directory, tasks, chunks, entries, values, marks, n, 3);
     work::run(directory, tasks, chunks, entries, values, marks, 0, 6, k, 0);
     work::steps(directory, tasks, chunks, entries, values, marks, n, 2);
@@ -148,14 +136,14 @@ fn crowd(
     values: &mut [u64; 560],
     marks: &mut [u64; 560],
 ) {
-    directory::fresh(directory, tasks, chunks, entries, values, marks);
+    work::fresh(directory, tasks, chunks, entries, values, marks);
     fill(directory, tasks, chunks, entries, values, marks, 1, 417);
     fill(directory, tasks, chunks, entries, values, marks, 1000, 1102);
     hold_fourteen(directory, tasks, chunks, entries, values, marks);
-    directory::begin(directory, tasks, chunks, entries, values, marks, key(1101));
-    directory::rebalance(directory, tasks, chunks, entries, values, marks);
-    directory::rebalance(directory, tasks, chunks, entries, values, marks);
-    directory::rebalance(directory, tasks, chunks, entries, values, marks);
+    work::begin(directory, tasks, chunks, entries, values, marks, key(1101));
+    work::go_on(directory, tasks, chunks, entries, values, marks);
+    work::go_on(directory, tasks, chunks, entries, values, marks);
+    work::go_on(directory, tasks, chunks, entries, values, marks);
     renew(directory, tasks, chunks, entries, values, marks, 1070, 1102);
 }
 
@@ -227,7 +215,7 @@ pub fn five_hundred_sixty(
     marks: &mut [u64; 560],
 ) {
     work::title(b"560 present keys");
-    directory::fresh(directory, tasks, chunks, entries, values, marks);
+    work::fresh(directory, tasks, chunks, entries, values, marks);
     fill(directory, tasks, chunks, entries, values, marks, 1, 471);
     fill(directory, tasks, chunks, entries, values, marks, 1000, 1090);
     let n = work::present(directory, tasks, chunks, entries, values, marks);

@@ -10,8 +10,8 @@ pub fn task_eight(
     marks: &mut [u64; 560],
 ) {
     work::title(b"task number 8");
-    directory::fresh(directory, tasks, chunks, entries, values, marks);
-    let r = directory::start(
+    work::fresh(directory, tasks, chunks, entries, values, marks);
+    let r = work::start(
         directory,
         tasks,
         chunks,
@@ -22,10 +22,9 @@ pub fn task_eight(
         2,
         5,
         50,
-        0,
     );
     work::say(b"start of task 7: ", r);
-    let r = directory::start(
+    let r = work::start(
         directory,
         tasks,
         chunks,
@@ -36,10 +35,9 @@ pub fn task_eight(
         2,
         5,
         50,
-        0,
     );
     work::say(b"start of task 8: ", r);
-    let r = directory::step(directory, tasks, chunks, entries, values, marks, 8);
+    let r = work::step(directory, tasks, chunks, entries, values, marks, 8);
     work::say(b"step of task 8: ", r);
 }
 
@@ -52,41 +50,17 @@ pub fn busy_and_idle(
     marks: &mut [u64; 560],
 ) {
     work::title(b"busy and idle tasks");
-    directory::fresh(directory, tasks, chunks, entries, values, marks);
-    let r = directory::step(directory, tasks, chunks, entries, values, marks, 0);
+    work::fresh(directory, tasks, chunks, entries, values, marks);
+    let r = work::step(directory, tasks, chunks, entries, values, marks, 0);
     work::say(b"step of an idle task: ", r);
-    let r = directory::start(
-        directory,
-        tasks,
-        chunks,
-        entries,
-        values,
-        marks,
-        0,
-        1,
-        5,
-        0,
-        0,
-    );
+    let r = work::start(directory, tasks, chunks, entries, values, marks, 0, 1, 5, 0);
     work::say(b"start: ", r);
-    let r = directory::start(
-        directory,
-        tasks,
-        chunks,
-        entries,
-        values,
-        marks,
-        0,
-        1,
-        5,
-        0,
-        0,
-    );
+    let r = work::start(directory, tasks, chunks, entries, values, marks, 0, 1, 5, 0);
     work::say(b"start of a busy task: ", r);
-    let r = directory::step(directory, tasks, chunks, entries, values, marks, 0);
+    let r = work::step(directory, tasks, chunks, entries, values, marks, 0);
     work::say(b"its first step: ", r);
-    let r = directory::step(directory, tasks, chunks, entries, values, marks, 0);
+    let r = work::step(directory, tasks, chunks, entries, values, marks, 0);
     work::say(b"its second step: ", r);
-    let r = directory::step(directory, tasks, chunks, entries, values, marks, 0);
+    let r = work::step(directory, tasks, chunks, entries, values, marks, 0);
     work::say(b"step of the task, idle again: ", r);
 }

@@ -29,6 +29,83 @@ pub fn title(t: &[u8]) {
     write_line(&out, n);
 }
 
+// ---- the calls, over the tables as arrays
+
+pub fn fresh(
+    directory: &mut [u64; 5],
+    tasks: &mut [u64; 88],
+    chunks: &mut [u64; 192],
+    entries: &mut [u64; 3072],
+    values: &mut [u64; 560],
+    marks: &mut [u64; 560],
+) {
+    directory::fresh(directory, tasks, chunks, entries, values, marks);
+}
+
+pub fn start(
+    directory: &mut [u64; 5],
+    tasks: &mut [u64; 88],
+    chunks: &mut [u64; 192],
+    entries: &mut [u64; 3072],
+    values: &mut [u64; 560],
+    marks: &mut [u64; 560],
+    n: u64,
+    op: u64,
+    k: u64,
+    a: u64,
+) -> Report {
+    directory::start(
+        directory,
+        tasks,
+        chunks,
+        entries,
+        values,
+        marks,
+        n,
+        op,
+        k,
+        a,
+        0,
+    )
+}
+
+pub fn step(
+    directory: &mut [u64; 5],
+    tasks: &mut [u64; 88],
+    chunks: &mut [u64; 192],
+    entries: &mut [u64; 3072],
+    values: &mut [u64; 560],
+    marks: &mut [u64; 560],
+    n: u64,
+) -> Report {
+    directory::step(directory, tasks, chunks, entries, values, marks, n)
+}
+
+pub fn begin(
+    directory: &mut [u64; 5],
+    tasks: &mut [u64; 88],
+    chunks: &mut [u64; 192],
+    entries: &mut [u64; 3072],
+    values: &mut [u64; 560],
+    marks: &mut [u64; 560],
+    k: u64,
+) -> Report {
+    directory::begin(directory, tasks, chunks, entries, values, marks, k)
+}
+
+pub fn go_on(
+    directory: &mut [u64; 5],
+    tasks: &mut [u64; 88],
+    chunks: &mut [u64; 192],
+    entries: &mut [u64; 3072],
+    values: &mut [u64; 560],
+    marks: &mut [u64; 560],
+) -> Report {
+    directory::rebalance(directory, tasks, chunks, entries, values, marks)
+}
+
+// ---- whole operations
+
 // The step neither finished its task nor was refused.
 fn goes_on(r: Report) -> bool {
     match r {
@@ -57,14 +134,14 @@ pub fn rebalance(
     marks: &mut [u64; 560],
     k: u64,
 ) -> Report {
-    let r = directory::begin(directory, tasks, chunks, entries, values, marks, k);
+    let r = begin(directory, tasks, chunks, entries, values, marks, k);
     let Report::Moved = r else {
         return r;
     };
-    directory::rebalance(directory, tasks, chunks, entries, values, marks);
-    directory::rebalance(directory, tasks, chunks, entries, values, marks);
-    directory::rebalance(directory, tasks, chunks, entries, values, marks);
-    directory::rebalance(directory, tasks, chunks, entries, values, marks)
+    go_on(directory, tasks, chunks, entries, values, marks);
+    go_on(directory, tasks, chunks, entries, values, marks);
+    go_on(directory, tasks, chunks, entries, values, marks);
+    go_on(directory, tasks, chunks, entries, values, marks)
 }
 
 // An operation from its start to its end; where its chunk is full, the chunk is rebalanced.
@@ -80,7 +157,7 @@ pub fn run(
     k: u64,
     a: u64,
 ) -> Report {
-    let mut r = directory::start(
+    let mut r = start(
         directory,
         tasks,
         chunks,
@@ -91,7 +168,6 @@ pub fn run(
         op,
         k,
         a,
-        0,
     );
     let mut turns = 64u64;
     while turns > 0 {
@@ -101,7 +177,7 @@ pub fn run(
         if is_full(r) {
             rebalance(directory, tasks, chunks, entries, values, marks, k);
         }
-        r = directory::step(directory, tasks, chunks, entries, values, marks, n);
+        r = step(directory, tasks, chunks, entries, values, marks, n);
         turns -= 1;
     }
     r
@@ -121,7 +197,7 @@ pub fn steps(
     let mut r = Report::Moved;
     let mut turns = count;
     while turns > 0 {
-        r = directory::step(directory, tasks, chunks, entries, values, marks, n);
+        r = step(directory, tasks, chunks, entries, values, marks, n);
         turns -= 1;
     }
     r
@@ -145,7 +221,7 @@ pub fn present(
 ) -> u64 {
     let mut found = 0;
     let mut turns = 1024u64;
-    directory::start(
+    start(
         directory,
         tasks,
         chunks,
@@ -156,10 +232,9 @@ pub fn present(
         7,
         0,
         u64::MAX,
-        0,
     );
     while turns > 0 {
-        let r = directory::step(directory, tasks, chunks, entries, values, marks, 0);
+        let r = step(directory, tasks, chunks, entries, values, marks, 0);
         if is_pair(r) {
             found += 1;
         } else {

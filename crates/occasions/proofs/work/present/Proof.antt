@@ -6,10 +6,10 @@ use Rattle.occasions.proofs.work.present.Statement.{statement}
 use Rattle.occasions.proofs.work.present.Tie as tie
 
 abbrev Inv-loop : tie.InvT-loop
-Inv-loop directory tasks₀ chunks₀ entries₀ values₀ marks₀ found₀ turns₀ tasks chunks entries values marks found turns = found + turns ≤ 1024
+Inv-loop directory₀ tasks₀ chunks₀ entries₀ values₀ marks₀ found₀ turns₀ directory tasks chunks entries values marks found turns = found + turns ≤ 1024
 
 abbrev μ-loop : tie.MeasureT-loop
-μ-loop directory tasks₀ chunks₀ entries₀ values₀ marks₀ found₀ turns₀ tasks chunks entries values marks found turns = turns
+μ-loop directory₀ tasks₀ chunks₀ entries₀ values₀ marks₀ found₀ turns₀ directory tasks chunks entries values marks found turns = turns
 
 start-requires : tie.Need-start-requires Inv-loop μ-loop
 start-requires c κs = search needs

@@ -4,10 +4,10 @@ use Rattle.occasions.proofs.work.steps.Statement.{statement}
 use Rattle.occasions.proofs.work.steps.Tie as tie
 
 abbrev Inv-loop : tie.InvT-loop
-Inv-loop directory tasks₀ chunks₀ entries₀ values₀ marks₀ n count r₀ turns₀ tasks chunks entries values marks r turns = Unit {0}
+Inv-loop directory₀ tasks₀ chunks₀ entries₀ values₀ marks₀ n count r₀ turns₀ directory tasks chunks entries values marks r turns = Unit {0}
 
 abbrev μ-loop : tie.MeasureT-loop
-μ-loop directory tasks₀ chunks₀ entries₀ values₀ marks₀ n count r₀ turns₀ tasks chunks entries values marks r turns = turns
+μ-loop directory₀ tasks₀ chunks₀ entries₀ values₀ marks₀ n count r₀ turns₀ directory tasks chunks entries values marks r turns = turns
 
 loop-holds : tie.Need-loop-holds Inv-loop μ-loop
 loop-holds c = search needs
