@@ -2,6 +2,7 @@
 # The library as a host links it: the header in C and C++, the example under valgrind, and the comparison with the second implementation.
 set -euo pipefail
 cd "$(dirname "$0")/.."
+command -v cargo >/dev/null || PATH=${CARGO_HOME:-$HOME/.cargo}/bin:$PATH
 archive=$(tests/archive.sh | tail -n 1)
 made=target/host
 mkdir -p "$made"
