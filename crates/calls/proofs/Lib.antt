@@ -2,3 +2,4 @@ pub mod Filling
 pub mod Held
 pub mod Laws
 pub mod Unique
+pub mod Useless
