@@ -68,7 +68,7 @@ module _ (z : Sizes) (lim : Limited z) (s : Tables) (h : Tabled z (s .directory)
   swaps-fine : t .stage ≡ 11 → Fine z s (Stages.swaps z s t (t .new))
   swaps-fine e =
       let H = Going.holds-at z lim s h t r 11 e (omega arith) in
-      rw e (picked (Fine z s) (eqb (entry z s (t .chunk) (t .entry) .handle .0) (t .old .0))
+      rw e (picked (Fine z s) (Stages.stillNames z s t)
       (λ _. naming 11 12 1 (t .new) e (omega arith) (omega arith) (ltb-true _ _ (H .chunk)) (ltb-true _ _ (H .entry)) (number-in (z .handles) (t .new .0) (ltb-true (t .new .0) (z .handles) (H .new)))
       (record { fits = Going.fit z lim s h t r 11 12 (λ op. true) refl e (omega arith) refl; function = H .function; chunk = H .chunk; entry = H .entry; old = H .old; new = H .new; published = refl; swapped = refl }))
       (λ _. Going.going z lim s h t r 12 (t .chunk) (t .entry) (t .old) (t .new) (t .published) (t .swapped) (omega arith)
@@ -78,7 +78,7 @@ module _ (z : Sizes) (lim : Limited z) (s : Tables) (h : Tabled z (s .directory)
   clears-fine : (t .stage ≡ 14) ⊎ (t .stage ≡ 20) → Fine z s (Stages.swaps z s t noHandle)
   clears-fine (inl e) =
       let H = Going.holds-at z lim s h t r 14 e (omega arith) in
-      rw e (picked (Fine z s) (eqb (entry z s (t .chunk) (t .entry) .handle .0) (t .old .0))
+      rw e (picked (Fine z s) (Stages.stillNames z s t)
       (λ _. naming 14 15 1 noHandle e (omega arith) (omega arith) (ltb-true _ _ (H .chunk)) (ltb-true _ _ (H .entry)) (number-none (z .handles))
       (record { fits = Going.fit z lim s h t r 14 15 (λ op. true) refl e (omega arith) refl; function = H .function; chunk = H .chunk; entry = H .entry; old = H .old; new = H .new; published = refl; swapped = refl }))
       (λ _. Going.going z lim s h t r 15 (t .chunk) (t .entry) (t .old) (t .new) (t .published) (t .swapped) (omega arith)
@@ -86,7 +86,7 @@ module _ (z : Sizes) (lim : Limited z) (s : Tables) (h : Tabled z (s .directory)
       (r .chunk-of-key) (Going.entry-at z lim s h t r 14 e (omega arith) 15)))
   clears-fine (inr e) =
       let H = Going.holds-at z lim s h t r 20 e (omega arith) in
-      rw e (picked (Fine z s) (eqb (entry z s (t .chunk) (t .entry) .handle .0) (t .old .0))
+      rw e (picked (Fine z s) (Stages.stillNames z s t)
       (λ _. naming 20 21 0 noHandle e (omega arith) (omega arith) (ltb-true _ _ (H .chunk)) (ltb-true _ _ (H .entry)) (number-none (z .handles))
       (record { fits = Going.fit z lim s h t r 20 21 (λ op. true) refl e (omega arith) refl; function = H .function; chunk = H .chunk; entry = H .entry; old = H .old; new = H .new; published = refl; swapped = refl }))
       (λ _. Going.going z lim s h t r 21 (t .chunk) (t .entry) (t .old) (t .new) (t .published) (t .swapped) (omega arith)

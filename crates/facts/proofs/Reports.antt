@@ -38,7 +38,7 @@ module _ (z : Sizes) (s : Tables) where
     absent-ok = picked (λ (r : Report). ten r ≡ false) (eqb (t .operation) get) (λ _. refl) (λ _. refl)
 
     swaps-ok : (h : HandleNo) → Ok (Stages.swaps z s t h)
-    swaps-ok h = picked Ok (eqb (entry z s (t .chunk) (t .entry) .handle .0) (t .old .0)) (λ _. refl) (λ _. refl)
+    swaps-ok h = picked Ok (Stages.stillNames z s t) (λ _. refl) (λ _. refl)
 
     decides-ok : Ok (Stages.decide z s t)
     unfolding Stages.stageDoes
@@ -49,10 +49,10 @@ module _ (z : Sizes) (s : Tables) where
         (λ _. picked P (eqb n 4) (λ _. picked Ok (eqb (mark s (t .old)) 0) (λ _. picked Ok (eqb (t .operation) get) (λ _. refl) (λ _. picked Ok (eqb (t .operation) putIfAbsent) (λ _. refl) (λ _. refl))) (λ _. picked Ok (eqb (t .operation) get) (λ _. absent-ok) (λ _. refl)))
         (λ _. picked P (eqb n 5) (λ _. picked Ok (eqb (mark s (t .old)) 0) (λ _. picked Ok (eqb (t .operation) remove) (λ _. refl) (λ _. picked Ok (eqb (t .operation) put) (λ _. refl) (λ _. picked (λ (r : Report). ten r ≡ false) (eqb (t .operation) compute) (λ _. refl) (λ _. refl)))) (λ _. picked Ok (inserts (t .operation)) (λ _. refl) (λ _. refl)))
         (λ _. picked P (eqb n 6) (λ _. picked Ok (eqb (chunk s (t .chunk) .frozen) 0) (λ _. picked Ok (ltb (chunk s (t .chunk) .used) (z .entries)) (λ _. refl) (λ _. refl)) (λ _. refl))
-        (λ _. picked P (eqb n 7) (λ _. picked Ok (eqb (chunk s (t .chunk) .frozen) 0) (λ _. picked Ok (ltb (find z s (t .chunk) (t .key) .0) (z .entries)) (λ _. refl) (λ _. refl)) (λ _. refl))
+        (λ _. picked P (eqb n 7) (λ _. picked Ok (eqb (chunk s (t .chunk) .frozen) 0) (λ _. picked Ok (Stages.hasKey z s t) (λ _. refl) (λ _. refl)) (λ _. refl))
         (λ _. picked P (eqb n 8) (λ _. picked Ok (ltb (lowestFree z s .0) (z .handles)) (λ _. refl) (λ _. refl))
         (λ _. picked P (eqb n 9) (λ _. refl)
-        (λ _. picked P (eqb n 10 or eqb n 13 or eqb n 19) (λ _. picked Ok (eqb (chunk s (t .chunk) .frozen) 0) (λ _. refl) (λ _. picked Ok (eqb (t .stage) 19) (λ _. refl) (λ _. refl)))
+        (λ _. picked P (eqb n 10 or eqb n 13 or eqb n 19) (λ _. picked Ok (Stages.mayPublish z s t) (λ _. refl) (λ _. picked Ok (eqb (t .stage) 19) (λ _. refl) (λ _. refl)))
         (λ _. picked P (eqb n 11) (λ _. swaps-ok _)
         (λ _. picked P (eqb n 14 or eqb n 20) (λ _. swaps-ok _)
         (λ _. picked P (eqb n 12) (λ _. picked Ok (eqb (t .swapped) 0) (λ _. refl) (λ _. picked (λ (r : Report). ten r ≡ false) (eqb (t .operation) putIfAbsent) (λ _. refl) (λ _. refl)))

@@ -187,7 +187,7 @@ module _ (z : Sizes) (lim : Limited z) (s : Tables) (h : Tabled z (s .directory)
   links-fine e =
       let H = Going.holds-at z lim s h t r 7 e (omega arith) in
       picked (Fine z s) (eqb (chunk s (t .chunk) .frozen) 0)
-      (λ _. picked (Fine z s) (ltb (find z s (t .chunk) (t .key) .0) (z .entries))
+      (λ _. picked (Fine z s) (Stages.hasKey z s t)
       (λ i. Going.going z lim s h t r 8 (t .chunk) (find z s (t .chunk) (t .key)) noHandle noHandle 0 0 (omega arith)
       (record { fits = Going.fit z lim s h t r 7 8 (λ op. true) refl e (omega arith) refl; function = H .function; chunk = H .chunk; entry = i; old = number-none (z .handles); new = refl; published = refl; swapped = refl })
       (r .chunk-of-key) (Going.found-held z lim s h t r (t .chunk) (ltb-true _ _ (H .chunk)) (t .key) 8))
@@ -222,21 +222,21 @@ module _ (z : Sizes) (lim : Limited z) (s : Tables) (h : Tabled z (s .directory)
   pub publishes-fine : (t .stage ≡ 10) ⊎ ((t .stage ≡ 13) ⊎ (t .stage ≡ 19)) → Fine z s (Stages.publishes z s t)
   publishes-fine (inl e) =
       let H = Going.holds-at z lim s h t r 10 e (omega arith) in
-      rw e (picked (Fine z s) (eqb (chunk s (t .chunk) .frozen) 0)
+      rw e (picked (Fine z s) (Stages.mayPublish z s t)
       (λ _. Going.going z lim s h t r 11 (t .chunk) (t .entry) (t .old) (t .new) 1 0 (omega arith)
       (record { fits = Going.fit z lim s h t r 10 11 (λ op. true) refl e (omega arith) refl; function = H .function; chunk = H .chunk; entry = H .entry; old = H .old; new = H .new; published = refl; swapped = refl })
       (r .chunk-of-key) (Going.entry-at z lim s h t r 10 e (omega arith) 11))
       (λ _. Going.restarted z lim s h t r _ (rw e (omega arith)) (Going.fit z lim s h t r 10 1 (λ op. true) refl e (omega arith) refl)))
   publishes-fine (inr (inl e)) =
       let H = Going.holds-at z lim s h t r 13 e (omega arith) in
-      rw e (picked (Fine z s) (eqb (chunk s (t .chunk) .frozen) 0)
+      rw e (picked (Fine z s) (Stages.mayPublish z s t)
       (λ _. Going.going z lim s h t r 14 (t .chunk) (t .entry) (t .old) (t .new) 1 0 (omega arith)
       (record { fits = Going.fit z lim s h t r 13 14 (λ op. true) refl e (omega arith) refl; function = H .function; chunk = H .chunk; entry = H .entry; old = H .old; new = H .new; published = refl; swapped = refl })
       (r .chunk-of-key) (Going.entry-at z lim s h t r 13 e (omega arith) 14))
       (λ _. Going.restarted z lim s h t r _ (rw e (omega arith)) (Going.fit z lim s h t r 13 1 (λ op. true) refl e (omega arith) refl)))
   publishes-fine (inr (inr e)) =
       let H = Going.holds-at z lim s h t r 19 e (omega arith) in
-      rw e (picked (Fine z s) (eqb (chunk s (t .chunk) .frozen) 0)
+      rw e (picked (Fine z s) (Stages.mayPublish z s t)
       (λ _. Going.going z lim s h t r 20 (t .chunk) (t .entry) (t .old) (t .new) 1 0 (omega arith)
       (record { fits = Going.fit z lim s h t r 19 20 (λ op. true) refl e (omega arith) refl; function = H .function; chunk = H .chunk; entry = H .entry; old = H .old; new = H .new; published = refl; swapped = refl })
       (r .chunk-of-key) (Going.entry-at z lim s h t r 19 e (omega arith) 20))

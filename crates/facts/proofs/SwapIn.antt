@@ -15,7 +15,7 @@ use Rattle.rules.specs.declared.Chunk.{Chunk}
 use Rattle.rules.specs.declared.ChunkNo.{ChunkNo}
 use Rattle.rules.specs.Words.{pick, NONE, chunkNo, live, new, retired, toSwap, toRelease}
 use Rattle.rules.specs.Tables.{Tables, emptyChunk, chunkAt, chunk, withDirectory, withChunks, putChunk}
-use Rattle.rules.specs.Rebalance.{withStatus, liveBefore, withNextChunk, swapsIn}
+use Rattle.rules.specs.Rebalance.{withStatus, liveBefore, withNextChunk, hasSecond, swapsIn}
 use Rattle.rules.specs.Shape.{liveCount}
 use Rattle.laws.proofs.Tests.{picked}
 use Rattle.views.proofs.Rows.{live-set, one}
@@ -32,13 +32,13 @@ put-eq cs d x b = getD-set-same cs (d .0) x emptyChunk b
 -- what holds of the tables and is left by each of swap in's writes holds of the tables after it
 pub swap-by : (z : Sizes) (s : Tables) (P : Tables → Type 0) → P s →
     ((x : Tables) → P x → P (putChunk x (beforeOld z s) (withNextChunk (chunk s (beforeOld z s)) (s .directory .new)))) →
-    ((x : Tables) → P x → P (putChunk x (s .directory .new) (liveBefore (chunk s (s .directory .new)) (pick (ltb (s .directory .second .0) (z .chunks)) (s .directory .second) (chunk s (s .directory .old) .next))))) →
+    ((x : Tables) → P x → P (putChunk x (s .directory .new) (liveBefore (chunk s (s .directory .new)) (pick (hasSecond z s) (s .directory .second) (chunk s (s .directory .old) .next))))) →
     ((x : Tables) → P x → P (putChunk x (s .directory .second) (liveBefore (chunk s (s .directory .second)) (chunk s (s .directory .old) .next)))) →
     ((x : Tables) → P x → P (putChunk x (s .directory .old) (withStatus (chunk s (s .directory .old)) retired))) →
     ((x : Tables) (d : Directory) → P x → P (withDirectory x d)) → P (swapsIn z s .tables)
-swap-by z s P here before new second old to = to _ _ (old _ (picked P (ltb (s .directory .second .0) (z .chunks)) (λ _. second _ made) (λ _. made)))
+swap-by z s P here before new second old to = to _ _ (old _ (picked P (hasSecond z s) (λ _. second _ made) (λ _. made)))
   where
-    made : P (putChunk (pick (eqb (s .directory .first .0) (s .directory .old .0)) s (putChunk s (beforeOld z s) (withNextChunk (chunk s (beforeOld z s)) (s .directory .new)))) (s .directory .new) (liveBefore (chunk s (s .directory .new)) (pick (ltb (s .directory .second .0) (z .chunks)) (s .directory .second) (chunk s (s .directory .old) .next))))
+    made : P (putChunk (pick (eqb (s .directory .first .0) (s .directory .old .0)) s (putChunk s (beforeOld z s) (withNextChunk (chunk s (beforeOld z s)) (s .directory .new)))) (s .directory .new) (liveBefore (chunk s (s .directory .new)) (pick (hasSecond z s) (s .directory .second) (chunk s (s .directory .old) .next))))
     made = new _ (picked P (eqb (s .directory .first .0) (s .directory .old .0)) (λ _. here) (λ _. before _ here))
 
 module _ (z : Sizes) (lim : Limited z) (s : Tables) (kept : Kept z s) (swapping : s .directory .stage ≡ toSwap) where
@@ -61,7 +61,7 @@ module _ (z : Sizes) (lim : Limited z) (s : Tables) (kept : Kept z s) (swapping 
   row-p = withNextChunk (chunk s p) a
 
   abbrev row-a : Chunk
-  row-a = liveBefore (chunk s a) (pick (ltb (b .0) (z .chunks)) b (chunk s old .next))
+  row-a = liveBefore (chunk s a) (pick (hasSecond z s) b (chunk s old .next))
 
   abbrev row-b : Chunk
   row-b = liveBefore (chunk s b) (chunk s old .next)
@@ -190,9 +190,9 @@ module _ (z : Sizes) (lim : Limited z) (s : Tables) (kept : Kept z s) (swapping 
   then-at = record { first = pick (eqb (first .0) (old .0)) a first; stage = toRelease; old = old; new = a; second = b }
 
   -- the chunk before written or not, the second new chunk written or not
-  by-second : (cs : List Chunk) → Before cs → Kept z (withDirectory (putChunk (pick (ltb (b .0) (z .chunks)) (putChunk (putChunk (withChunks s cs) a row-a) b row-b) (putChunk (withChunks s cs) a row-a)) old row-old) then-at)
+  by-second : (cs : List Chunk) → Before cs → Kept z (withDirectory (putChunk (pick (hasSecond z s) (putChunk (putChunk (withChunks s cs) a row-a) b row-b) (putChunk (withChunks s cs) a row-a)) old row-old) then-at)
   by-second cs w =
-      picked (λ (x : Tables). Kept z (withDirectory (putChunk x old row-old) then-at)) (ltb (b .0) (z .chunks))
+      picked (λ (x : Tables). Kept z (withDirectory (putChunk x old row-old) then-at)) (hasSecond z s)
       (λ t. Swapping.swapped-kept z lim s kept swapping _ (two-swapped cs w (ltb-true _ _ t)))
       (λ t. Swapping.swapped-kept z lim s kept swapping _ (one-swapped cs w (⊎-elim (λ i. absurd (out i (ltb-false _ _ t))) (λ e. e) (Swapping.two-or-not z lim s kept swapping))))
     where
@@ -201,6 +201,6 @@ module _ (z : Sizes) (lim : Limited z) (s : Tables) (kept : Kept z s) (swapping 
 
   pub swap-in-kept : Kept z (swapsIn z s .tables)
   swap-in-kept =
-      picked (λ (x : Tables). Kept z (withDirectory (putChunk (pick (ltb (b .0) (z .chunks)) (putChunk (putChunk x a row-a) b row-b) (putChunk x a row-a)) old row-old) then-at)) (eqb (first .0) (old .0))
+      picked (λ (x : Tables). Kept z (withDirectory (putChunk (pick (hasSecond z s) (putChunk (putChunk x a row-a) b row-b) (putChunk x a row-a)) old row-old) then-at)) (eqb (first .0) (old .0))
       (λ t. by-second (s .chunks) (none-before (ap chunkNo (eqb-true _ _ t))))
       (λ t. by-second (set (s .chunks) (p .0) row-p) (one-before (λ e. eqb-false _ _ t (ap (λ (c : ChunkNo). c .0) e))))

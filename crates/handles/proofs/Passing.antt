@@ -72,7 +72,7 @@ module _ (z : Sizes) (lim : Limited z) (s : Tables) (h : Tabled z (s .directory)
 
   publishes-pass : t .swapped ≡ 0 → Passed (Stages.publishes z s t)
   publishes-pass w =
-      picked Passed (eqb (chunk s (t .chunk) .frozen) 0) (λ _. both-on refl refl refl (λ _. w) tt)
+      picked Passed (Stages.mayPublish z s t) (λ _. both-on refl refl refl (λ _. w) tt)
       (λ _. picked Passed (eqb (t .stage) 19) (λ _. held-on refl refl refl tt) (λ _. dropped refl refl tt))
 
   unswapped : (t .stage ≡ 10) ⊎ ((t .stage ≡ 13) ⊎ (t .stage ≡ 19)) → t .swapped ≡ 0
@@ -83,7 +83,7 @@ module _ (z : Sizes) (lim : Limited z) (s : Tables) (h : Tabled z (s .directory)
   swaps-pass : t .stage ≡ 11 → Passed (Stages.swaps z s t (t .new))
   swaps-pass e =
       let H = holds-at 11 e (omega arith) in
-      rw e (picked Passed (eqb (entry z s (t .chunk) (t .entry) .handle .0) (t .old .0))
+      rw e (picked Passed (Stages.stillNames z s t)
       (λ _. both-on refl refl refl (λ q. absurd (one q)) (record { chunk = ltb-true _ _ (H .chunk); entry = ltb-true _ _ (H .entry) }, inr (refl, ltb-true _ _ (H .new), eqb-true _ _ (H .swapped), refl)))
       (λ _. both-on refl refl refl (λ q. q) tt))
     where
@@ -93,11 +93,11 @@ module _ (z : Sizes) (lim : Limited z) (s : Tables) (h : Tabled z (s .directory)
   clears-pass : (t .stage ≡ 14) ⊎ (t .stage ≡ 20) → Passed (Stages.swaps z s t noHandle)
   clears-pass (inl e) =
       let H = holds-at 14 e (omega arith) in
-      picked Passed (eqb (entry z s (t .chunk) (t .entry) .handle .0) (t .old .0))
+      picked Passed (Stages.stillNames z s t)
       (λ _. both-on refl refl refl (λ _. eqb-true _ _ (H .swapped)) (record { chunk = ltb-true _ _ (H .chunk); entry = ltb-true _ _ (H .entry) }, inl refl)) (λ _. both-on refl refl refl (λ q. q) tt)
   clears-pass (inr e) =
       let H = holds-at 20 e (omega arith) in
-      picked Passed (eqb (entry z s (t .chunk) (t .entry) .handle .0) (t .old .0))
+      picked Passed (Stages.stillNames z s t)
       (λ _. both-on refl refl refl (λ _. eqb-true _ _ (H .swapped)) (record { chunk = ltb-true _ _ (H .chunk); entry = ltb-true _ _ (H .entry) }, inl refl)) (λ _. both-on refl refl refl (λ q. q) tt)
 
   pub decides-pass : Passed (Stages.decide z s t)
@@ -109,7 +109,7 @@ module _ (z : Sizes) (lim : Limited z) (s : Tables) (h : Tabled z (s .directory)
       (λ _. picked P (eqb m 4) (λ _. picked Passed (eqb (mark s (t .old)) 0) (λ _. picked Passed (eqb (t .operation) get) (λ _. dropped refl refl tt) (λ _. picked Passed (eqb (t .operation) putIfAbsent) (λ _. dropped refl refl tt) (λ _. both-on refl refl refl (λ q. q) tt))) (λ _. picked Passed (eqb (t .operation) get) (λ _. dropped refl refl tt) (λ _. both-on refl refl refl (λ q. q) tt)))
       (λ _. picked P (eqb m 5) (λ _. picked Passed (eqb (mark s (t .old)) 0) (λ _. picked Passed (eqb (t .operation) remove) (λ _. held-on refl refl refl tt) (λ _. picked Passed (eqb (t .operation) put) (λ _. dropped refl refl tt) (λ _. dropped refl refl tt))) (λ _. picked Passed (inserts (t .operation)) (λ _. dropped refl refl tt) (λ _. both-on refl refl refl (λ q. q) tt)))
       (λ _. picked P (eqb m 6) (λ _. picked Passed (eqb (chunk s (t .chunk) .frozen) 0) (λ _. picked Passed (ltb (chunk s (t .chunk) .used) (z .entries)) (λ _. dropped refl refl tt) (λ _. dropped refl refl tt)) (λ _. dropped refl refl tt))
-      (λ _. picked P (eqb m 7) (λ _. picked Passed (eqb (chunk s (t .chunk) .frozen) 0) (λ _. picked Passed (ltb (find z s (t .chunk) (t .key) .0) (z .entries)) (λ _. dropped refl refl tt) (λ _. both-on refl refl refl (λ q. q) tt)) (λ _. dropped refl refl tt))
+      (λ _. picked P (eqb m 7) (λ _. picked Passed (eqb (chunk s (t .chunk) .frozen) 0) (λ _. picked Passed (Stages.hasKey z s t) (λ _. dropped refl refl tt) (λ _. both-on refl refl refl (λ q. q) tt)) (λ _. dropped refl refl tt))
       (λ _. picked P (eqb m 8) (λ _. takes-pass)
       (λ _. picked P (eqb m 9) (λ _. both-on refl refl refl (λ q. q) tt)
       (λ _. picked P (eqb m 10 or eqb m 13 or eqb m 19) (λ e. publishes-pass (unswapped (⊎-map (eqb-true m 10) (λ o. ⊎-map (eqb-true m 13) (eqb-true m 19) (or-cases _ _ o)) (or-cases _ _ e))))

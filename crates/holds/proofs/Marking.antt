@@ -117,13 +117,13 @@ module _ (z : Sizes) (lim : Limited z) (s : Tables) (kept : Kept z s) (marked : 
 
   publishes-marks : (m : ℕ) → t .stage ≡ m → m ≢ 0 → m ≢ 4 → m ≢ 5 → 10 ≤ m → holdAt m .swapped ≡ 0 → Marks (Stages.publishes z s t)
   publishes-marks m e ne x y le sw =
-      picked Marks (eqb (chunk s (t .chunk) .frozen) 0)
+      picked Marks (Stages.mayPublish z s t)
       (λ _. record { old = λ ts. old-on m e x y (Stages.goesTo t (t .stage + 1) (t .chunk) (t .entry) (t .old) (t .new) 1 0) refl; new = λ ts. new-on (Stages.goesTo t (t .stage + 1) (t .chunk) (t .entry) (t .old) (t .new) 1 0) refl (λ _. eqb-true _ _ (rw sw at (holds-at m e ne .swapped))) (λ _. rw e le) refl; touches = tt })
       (λ _. picked Marks (eqb (t .stage) 19) (λ _. record { old = λ ts. old-on m e x y (Stages.goesTo t 16 (record { 0 = NONE }) (record { 0 = NONE }) (t .old) noHandle 0 0) refl; new = λ ts. none-new (Stages.goesTo t 16 (record { 0 = NONE }) (record { 0 = NONE }) (t .old) noHandle 0 0) refl; touches = tt }) (λ _. gone refl refl tt))
 
   swaps-marks : (m : ℕ) (h : HandleNo) → t .stage ≡ m → m ≢ 0 → m ≢ 4 → m ≢ 5 → 10 ≤ m → holdAt m .swapped ≡ 0 → Marks (Stages.swaps z s t h)
   swaps-marks m h e ne x y le sw =
-      picked Marks (eqb (entry z s (t .chunk) (t .entry) .handle .0) (t .old .0))
+      picked Marks (Stages.stillNames z s t)
       (λ _. record { old = λ ts. old-on m e x y t′ refl; new = λ ts. new-on t′ refl (λ _. eqb-true _ _ (rw sw at (holds-at m e ne .swapped))) (λ _. rw e le) refl; touches = tt })
       (λ _. record { old = λ ts. old-on m e x y (Stages.keeps t (t .stage + 1)) refl; new = λ ts. new-on (Stages.keeps t (t .stage + 1)) refl (λ q. q) (λ _. rw e le) refl; touches = tt })
     where
@@ -140,7 +140,7 @@ module _ (z : Sizes) (lim : Limited z) (s : Tables) (kept : Kept z s) (marked : 
       (λ _. picked P (eqb m 4) (λ e. picked Marks (eqb (mark s (t .old)) 0) (λ _. picked Marks (eqb (t .operation) get) (λ _. gone refl refl tt) (λ _. picked Marks (eqb (t .operation) putIfAbsent) (λ _. gone refl refl tt) (λ _. record { old = λ ts _ y. absurd (y refl); new = λ ts. none-new (Stages.keeps t 5) (eqb-true _ _ (holds-at 4 (eqb-true m 4 e) (omega arith) .new)); touches = tt }))) (λ d. picked Marks (eqb (t .operation) get) (λ _. gone refl refl tt) (λ _. keeps-deleted 4 (pick (inserts (t .operation)) 8 13) (eqb-true m 4 e) (omega arith) refl d)))
       (λ _. picked P (eqb m 5) (λ e. applies-marks (eqb-true m 5 e))
       (λ _. picked P (eqb m 6) (λ _. picked Marks (eqb (chunk s (t .chunk) .frozen) 0) (λ _. picked Marks (ltb (chunk s (t .chunk) .used) (z .entries)) (λ _. gone refl refl tt) (λ _. gone refl refl tt)) (λ _. gone refl refl tt))
-      (λ _. picked P (eqb m 7) (λ e. picked Marks (eqb (chunk s (t .chunk) .frozen) 0) (λ _. picked Marks (ltb (find z s (t .chunk) (t .key) .0) (z .entries)) (λ _. gone refl refl tt) (λ _. gone (eqb-true _ _ (holds-at 7 (eqb-true m 7 e) (omega arith) .old)) (eqb-true _ _ (holds-at 7 (eqb-true m 7 e) (omega arith) .new)) tt)) (λ _. gone refl refl tt))
+      (λ _. picked P (eqb m 7) (λ e. picked Marks (eqb (chunk s (t .chunk) .frozen) 0) (λ _. picked Marks (Stages.hasKey z s t) (λ _. gone refl refl tt) (λ _. gone (eqb-true _ _ (holds-at 7 (eqb-true m 7 e) (omega arith) .old)) (eqb-true _ _ (holds-at 7 (eqb-true m 7 e) (omega arith) .new)) tt)) (λ _. gone refl refl tt))
       (λ _. picked P (eqb m 8) (λ e. takes-marks (eqb-true m 8 e))
       (λ _. picked P (eqb m 9) (λ e. writes-marks (eqb-true m 9 e))
       (λ _. picked P (eqb m 10 or eqb m 13 or eqb m 19) (λ e. ⊎-elim (λ o. publishes-marks 10 (eqb-true m 10 o) (omega arith) (omega arith) (omega arith) (omega arith) refl) (λ o. ⊎-elim (λ v. publishes-marks 13 (eqb-true m 13 v) (omega arith) (omega arith) (omega arith) (omega arith) refl) (λ v. publishes-marks 19 (eqb-true m 19 v) (omega arith) (omega arith) (omega arith) (omega arith) refl) (or-cases _ _ o)) (or-cases _ _ e))

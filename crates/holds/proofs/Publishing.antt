@@ -51,7 +51,7 @@ module _ (z : Sizes) (s : Tables) (t : Task) (r : Tasked z (s .chunks) (s .entri
 
   publishes-so : t .chunk .0 < z .chunks → Publishes (Stages.publishes z s t)
   publishes-so b =
-      picked Publishes (eqb (chunk s (t .chunk) .frozen) 0) (λ f. record { publishes = λ _. (refl, inr (eqb-true _ _ f, b)); names = tt })
+      picked Publishes (Stages.mayPublish z s t) (λ f. record { publishes = λ _. (refl, inr (eqb-true _ _ f, b)); names = tt })
       (λ _. picked Publishes (eqb (t .stage) 19) (λ _. quiet refl tt) (λ _. quiet refl tt))
 
   chunk-in : (t .stage ≡ 10) ⊎ ((t .stage ≡ 13) ⊎ (t .stage ≡ 19)) → t .chunk .0 < z .chunks
@@ -61,7 +61,7 @@ module _ (z : Sizes) (s : Tables) (t : Task) (r : Tasked z (s .chunks) (s .entri
 
   swaps-so : (h : HandleNo) → t .published ≡ 1 → t .entry .0 < z .entries → t .stage ≢ 7 → Publishes (Stages.swaps z s t h)
   swaps-so h p b ne =
-      picked Publishes (eqb (entry z s (t .chunk) (t .entry) .handle .0) (t .old .0))
+      picked Publishes (Stages.stillNames z s t)
       (λ _. record { publishes = λ _. (refl, inl p); names = r .entry b .linked ne }) (λ _. still refl refl tt)
 
   swaps-at : (t .stage ≡ 11) ⊎ ((t .stage ≡ 14) ⊎ (t .stage ≡ 20)) → (h : HandleNo) → Publishes (Stages.swaps z s t h)
@@ -78,7 +78,7 @@ module _ (z : Sizes) (s : Tables) (t : Task) (r : Tasked z (s .chunks) (s .entri
       (λ _. picked P (eqb m 4) (λ _. picked Publishes (eqb (mark s (t .old)) 0) (λ _. picked Publishes (eqb (t .operation) get) (λ _. quiet refl tt) (λ _. picked Publishes (eqb (t .operation) putIfAbsent) (λ _. quiet refl tt) (λ _. still refl refl tt))) (λ _. picked Publishes (eqb (t .operation) get) (λ _. quiet refl tt) (λ _. still refl refl tt)))
       (λ _. picked P (eqb m 5) (λ _. picked Publishes (eqb (mark s (t .old)) 0) (λ _. picked Publishes (eqb (t .operation) remove) (λ _. quiet refl tt) (λ _. picked Publishes (eqb (t .operation) put) (λ _. quiet refl tt) (λ _. quiet refl tt))) (λ _. picked Publishes (inserts (t .operation)) (λ _. quiet refl tt) (λ _. still refl refl tt)))
       (λ _. picked P (eqb m 6) (λ _. picked Publishes (eqb (chunk s (t .chunk) .frozen) 0) (λ _. picked Publishes (ltb (chunk s (t .chunk) .used) (z .entries)) (λ _. quiet refl tt) (λ _. quiet refl tt)) (λ _. quiet refl tt))
-      (λ _. picked P (eqb m 7) (λ _. picked Publishes (eqb (chunk s (t .chunk) .frozen) 0) (λ _. picked Publishes (ltb (find z s (t .chunk) (t .key) .0) (z .entries)) (λ _. quiet refl tt) (λ _. still refl refl tt)) (λ _. quiet refl tt))
+      (λ _. picked P (eqb m 7) (λ _. picked Publishes (eqb (chunk s (t .chunk) .frozen) 0) (λ _. picked Publishes (Stages.hasKey z s t) (λ _. quiet refl tt) (λ _. still refl refl tt)) (λ _. quiet refl tt))
       (λ _. picked P (eqb m 8) (λ _. picked Publishes (ltb (lowestFree z s .0) (z .handles)) (λ _. quiet refl tt) (λ _. quiet refl tt))
       (λ _. picked P (eqb m 9) (λ _. still refl refl tt)
       (λ _. picked P (eqb m 10 or eqb m 13 or eqb m 19) (λ e. publishes-so (chunk-in (⊎-map (eqb-true m 10) (λ o. ⊎-map (eqb-true m 13) (eqb-true m 19) (or-cases _ _ o)) (or-cases _ _ e))))

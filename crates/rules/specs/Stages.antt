@@ -52,6 +52,20 @@ abbrev pub applied : ℕ → ℕ → ℕ → ℕ
 applied f amount v = pick (eqb f 1) ((v + amount) % 2 ^ 64) (pick (eqb f 2) (max v amount) (bitOr v amount))
 
 module _ (z : Sizes) (s : Tables) (t : Task) where
+  -- ---- the tests that keep one task from another's work
+  -- the held chunk is not frozen, so the task may publish on it
+  abbrev pub mayPublish : Bool
+  mayPublish = eqb (chunk s (t .chunk) .frozen) 0
+
+  -- the held entry still names the old handle, or none where there is none
+  abbrev pub stillNames : Bool
+  stillNames = eqb (entry z s (t .chunk) (t .entry) .handle .0) (t .old .0)
+
+  -- a linked entry has the key
+  abbrev pub hasKey : Bool
+  hasKey = ltb (find z s (t .chunk) (t .key) .0) (z .entries)
+
+  -- ---- the stages
   -- 1 locate, and 16 for a remove that has set its mark: the live chunk whose range has the key
   abbrev pub locates : Decision
   locates = moves (goesTo t (t .stage + 1) (locate z s (t .key)) noEntry (t .old) noHandle 0 0) write.Nothing
@@ -109,7 +123,7 @@ module _ (z : Sizes) (s : Tables) (t : Task) where
       let other = find z s (t .chunk) (t .key) in
       let before = place z s (t .chunk) (t .key) in
       pick (eqb (chunk s (t .chunk) .frozen) 0)
-      (pick (ltb (other .0) (z .entries))
+      (pick hasKey
       (moves (goesTo t 8 (t .chunk) other noHandle noHandle 0 0) write.Nothing)
       (moves (keeps t 8) (write.Link (t .chunk) (t .entry) before)))
       (restarts t report.Frozen)
@@ -129,14 +143,14 @@ module _ (z : Sizes) (s : Tables) (t : Task) where
   -- 10, 13, 19 publish: a frozen chunk sends the operation back, and a remove that has set its mark to 16
   abbrev pub publishes : Decision
   publishes =
-      pick (eqb (chunk s (t .chunk) .frozen) 0)
+      pick mayPublish
       (moves (goesTo t (t .stage + 1) (t .chunk) (t .entry) (t .old) (t .new) 1 0) write.Nothing)
       (pick (eqb (t .stage) 19) (moves (goesTo t 16 noChunk noEntry (t .old) noHandle 0 0) write.Nothing) (restarts t report.Frozen))
 
   -- 11, 14, 20 swap, to the new handle at 11 and to none at the others: only where the entry still names the old one, or none where there is none
   abbrev pub swaps : HandleNo → Decision
   swaps h =
-      pick (eqb (entry z s (t .chunk) (t .entry) .handle .0) (t .old .0))
+      pick stillNames
       (moves (goesTo t (t .stage + 1) (t .chunk) (t .entry) (t .old) (t .new) 1 (pick (eqb (t .stage) 20) 0 1)) (write.Name (t .chunk) (t .entry) h))
       (moves (keeps t (t .stage + 1)) write.Nothing)
 

@@ -105,19 +105,19 @@ module _ (z : Sizes) (s : Tables) (t : Task) (r : Tasked z (s .chunks) (s .entri
   swaps-act : t .stage ≡ 11 → By (Stages.swaps z s t (t .new))
   swaps-act e =
       let H = holds-at 11 e (omega arith) in
-      picked By (eqb (entry z s (t .chunk) (t .entry) .handle .0) (t .old .0))
+      picked By (Stages.stillNames z s t)
       (λ i. Acts.names (swaps-by 11 e (omega arith, omega arith, omega arith) (record { chunk = ltb-true _ _ (H .chunk); entry = ltb-true _ _ (H .entry) }) (eqb-true _ _ (H .published)) (eqb-true _ _ i)) (ltb-true _ _ (H .new)) (eqb-true _ _ (H .swapped)) (rw e (omega arith)) (at-swap e) (rw (e, i) refl))
       (λ i. Acts.still tt (rw (e, i) refl))
 
   clears-act : (m : ℕ) → t .stage ≡ m → eqb m 11 ≡ false → eqb m 5 ≡ false → (m ≢ 4) × (m ≢ 5) × (m ≢ 7) → Row z (t .chunk) (t .entry) → t .published ≡ 1 → By (Stages.swaps z s t noHandle)
-  clears-act m e p q ne w pub₁ = picked By (eqb (entry z s (t .chunk) (t .entry) .handle .0) (t .old .0)) (λ i. Acts.drops (swaps-by m e ne w pub₁ (eqb-true _ _ i)) (undecided m e p q)) (λ _. quiet m e p q)
+  clears-act m e p q ne w pub₁ = picked By (Stages.stillNames z s t) (λ i. Acts.drops (swaps-by m e ne w pub₁ (eqb-true _ _ i)) (undecided m e p q)) (λ _. quiet m e p q)
 
   clears-at : (t .stage ≡ 14) ⊎ (t .stage ≡ 20) → By (Stages.swaps z s t noHandle)
   clears-at (inl e) = let H = holds-at 14 e (omega arith) in clears-act 14 e refl refl (omega arith, omega arith, omega arith) (record { chunk = ltb-true _ _ (H .chunk); entry = ltb-true _ _ (H .entry) }) (eqb-true _ _ (H .published))
   clears-at (inr e) = let H = holds-at 20 e (omega arith) in clears-act 20 e refl refl (omega arith, omega arith, omega arith) (record { chunk = ltb-true _ _ (H .chunk); entry = ltb-true _ _ (H .entry) }) (eqb-true _ _ (H .published))
 
   publishes-act : Acts z s t write.Nothing → By (Stages.publishes z s t)
-  publishes-act q = picked By (eqb (chunk s (t .chunk) .frozen) 0) (λ _. q) (λ _. picked By (eqb (t .stage) 19) (λ _. q) (λ _. q))
+  publishes-act q = picked By (Stages.mayPublish z s t) (λ _. q) (λ _. picked By (eqb (t .stage) 19) (λ _. q) (λ _. q))
 
   pub decides-act : By (Stages.decide z s t)
   unfolding Stages.stageDoes
@@ -128,7 +128,7 @@ module _ (z : Sizes) (s : Tables) (t : Task) (r : Tasked z (s .chunks) (s .entri
       (λ _. picked P (eqb m 4) (λ e. let q = quiet 4 (eqb-true m 4 e) refl refl in picked By (eqb (mark s (t .old)) 0) (λ _. picked By (eqb (t .operation) get) (λ _. q) (λ _. picked By (eqb (t .operation) putIfAbsent) (λ _. q) (λ _. q))) (λ _. picked By (eqb (t .operation) get) (λ _. q) (λ _. q)))
       (λ n5. picked P (eqb m 5) (λ e. applies-act (eqb-true m 5 e))
       (λ n5. picked P (eqb m 6) (λ e. let u = undecided 6 (eqb-true m 6 e) refl refl in picked By (eqb (chunk s (t .chunk) .frozen) 0) (λ _. picked By (ltb (chunk s (t .chunk) .used) (z .entries)) (λ _. Acts.still tt u) (λ _. Acts.still tt u)) (λ _. Acts.still tt u))
-      (λ _. picked P (eqb m 7) (λ e. let u = undecided 7 (eqb-true m 7 e) refl refl in picked By (eqb (chunk s (t .chunk) .frozen) 0) (λ _. picked By (ltb (find z s (t .chunk) (t .key) .0) (z .entries)) (λ _. Acts.still tt u) (λ _. Acts.still tt u)) (λ _. Acts.still tt u))
+      (λ _. picked P (eqb m 7) (λ e. let u = undecided 7 (eqb-true m 7 e) refl refl in picked By (eqb (chunk s (t .chunk) .frozen) 0) (λ _. picked By (Stages.hasKey z s t) (λ _. Acts.still tt u) (λ _. Acts.still tt u)) (λ _. Acts.still tt u))
       (λ _. picked P (eqb m 8) (λ e. let u = undecided 8 (eqb-true m 8 e) refl refl in picked By (ltb (lowestFree z s .0) (z .handles)) (λ i. Acts.takes (ltb-true _ _ i) u) (λ _. Acts.still tt u))
       (λ _. picked P (eqb m 9) (λ e. let H = holds-at 9 (eqb-true m 9 e) (omega arith) in Acts.writes (ltb-true _ _ (H .new)) (eqb-true _ _ (H .swapped)) (undecided 9 (eqb-true m 9 e) refl refl))
       (λ _. picked P (eqb m 10 or eqb m 13 or eqb m 19) (λ e. publishes-act (⊎-elim (λ o. quiet 10 (eqb-true m 10 o) refl refl) (λ o. ⊎-elim (λ v. quiet 13 (eqb-true m 13 v) refl refl) (λ v. quiet 19 (eqb-true m 19 v) refl refl) (or-cases _ _ o)) (or-cases _ _ e)))
