@@ -1,3 +1,4 @@
 pub mod Late
 pub mod Naming
 pub mod Holding
+pub mod Seeing
