@@ -2,3 +2,4 @@ pub mod Late
 pub mod Naming
 pub mod Holding
 pub mod Seeing
+pub mod Removing
