@@ -6,7 +6,7 @@ use mathlib.Core.List.{List}
 use native.Mathlib.Nat.{le-refl, zero-add}
 use native.Mathlib.Omega.{arith}
 use lib.Dec.{eqb, ltb, leb}
-use lib.ListN.{length, getD, set, take, drop}
+use lib.ListN.{length, set, take, drop}
 use borrow.Author.Tests.{leb-false, eqb-true}
 use Rattle.rules.specs.declared.Sizes.{Sizes}
 use Rattle.rules.specs.declared.Directory.{Directory}
@@ -14,7 +14,7 @@ use Rattle.rules.specs.declared.Entry.{Entry}
 use Rattle.rules.specs.declared.ChunkNo.{ChunkNo}
 use Rattle.rules.specs.declared.EntryNo.{EntryNo}
 use Rattle.rules.specs.Words.{NONE, noChunk, unused, live, retired, idle, toDrain, toCopy, toSwap, toRelease}
-use Rattle.rules.specs.Tables.{Tables, emptyEntry, chunk, entryAt, task, withDirectory, withChunks, withEntries}
+use Rattle.rules.specs.Tables.{Tables, chunk, entryAt, task, withDirectory, withChunks, withEntries}
 use Rattle.rules.specs.Rebalance.{Outcome, unusedCount, unusedFrom, publishedOn, heldChunk, namingFrom, at, begins, drains, copies, swapsIn, releases, rebalanceDoes}
 use Rattle.rules.specs.Calls.{does}
 use Rattle.rules.specs.Calls.Call.{rebalance}

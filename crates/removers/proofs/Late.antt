@@ -1,7 +1,7 @@
--- Which decisions leave a task past 16, which delete, and what the stages from 16 on decide.
-use Prim.Native.Nat.{ℕ, _+_, _≤_, _<_}
+-- Which decisions leave a task past 16, and which delete.
+use Prim.Native.Nat.{ℕ, _+_, _≤_}
 use mathlib.Core.Path.{_≡_, refl, ap}
-use mathlib.Core.Bool.{Bool, true, false}
+use mathlib.Core.Bool.{false}
 use native.Mathlib.Omega.{arith}
 use lib.Dec.{eqb, ltb, leb}
 use borrow.Author.Tests.{eqb-true, eqb-false}
@@ -10,7 +10,7 @@ use Rattle.rules.specs.declared.Task.{Task}
 use Rattle.rules.specs.declared.Decision.{Decision}
 use Rattle.rules.specs.declared.Write.{Write}
 use Rattle.rules.specs.declared.Write.the-variants as write
-use Rattle.rules.specs.Words.{pick, _or_, noHandle, get, put, putIfAbsent, remove, inserts}
+use Rattle.rules.specs.Words.{_or_, get, put, putIfAbsent, remove, inserts}
 use Rattle.rules.specs.Tables.{Tables, chunk, entry, mark}
 use Rattle.rules.specs.Walks.{locate, find, lowestFree, firstPresent}
 use Rattle.rules.specs.Stages
@@ -27,6 +27,7 @@ Sets y (write.Delete h) = (y .stage ≡ 16) × (y .old ≡ h)
 Sets y (write.Name c e h) = Unit {0}
 
 module _ (z : Sizes) (s : Tables) (t : Task) where
+  -- a row at 17 to 21 comes from one at 16 to 20
   pub record Late (x : Decision) : Type 0 where
     pub from : 17 ≤ x .task .stage → x .task .stage ≤ 21 → (16 ≤ t .stage) × (t .stage ≤ 20)
     pub sets : Sets (x .task) (x .write)
@@ -76,26 +77,6 @@ module _ (z : Sizes) (s : Tables) (t : Task) where
       P : (Sizes → Tables → Task → Decision) → Type 0
       P f = Late (f z s t)
 
-  -- ---- the stages from 16 on
-  does-at : (m : ℕ) → t .stage ≡ m → Stages.decide z s t ≡ Stages.stageDoes m z s t
+  -- what the stage of that number decides
+  pub does-at : (m : ℕ) → t .stage ≡ m → Stages.decide z s t ≡ Stages.stageDoes m z s t
   does-at m e = ap (λ (n : ℕ). Stages.stageDoes n z s t) e
-
-  pub at-16 : t .stage ≡ 16 → Stages.decide z s t ≡ Stages.locates z s t
-  unfolding Stages.stageDoes
-  at-16 e = does-at 16 e
-
-  pub at-17 : t .stage ≡ 17 → Stages.decide z s t ≡ Stages.findsAgain z s t
-  unfolding Stages.stageDoes
-  at-17 e = does-at 17 e
-
-  pub at-18 : t .stage ≡ 18 → Stages.decide z s t ≡ Stages.readsAgain z s t
-  unfolding Stages.stageDoes
-  at-18 e = does-at 18 e
-
-  pub at-19 : t .stage ≡ 19 → Stages.decide z s t ≡ Stages.publishes z s t
-  unfolding Stages.stageDoes
-  at-19 e = does-at 19 e
-
-  pub at-20 : t .stage ≡ 20 → Stages.decide z s t ≡ Stages.swaps z s t noHandle
-  unfolding Stages.stageDoes
-  at-20 e = does-at 20 e

@@ -2,7 +2,6 @@
 use Prim.Native.Nat.{ℕ, _<_}
 use mathlib.Core.Path.{_≡_, refl, sym, ap, _∙_}
 use mathlib.Core.Logic.{_⊎_, inl, inr, ⊎-elim, _≢_}
-use mathlib.Core.Bool.{true, false}
 use mathlib.Core.List.{List}
 use native.Mathlib.Decide.{ℕ-discrete, decLt}
 use native.Mathlib.Nat.{le-refl}
@@ -20,20 +19,19 @@ use Rattle.rules.specs.declared.Decision.{Decision}
 use Rattle.rules.specs.declared.Write.{Write}
 use Rattle.rules.specs.declared.Write.the-variants as write
 use Rattle.rules.specs.Words.{NONE, handleNo, noHandle, live}
-use Rattle.rules.specs.Tables.{Tables, idleTask, chunk, chunkAt, entryAt, entry, task, withTasks}
+use Rattle.rules.specs.Tables.{Tables, idleTask, chunk, entry, task, withTasks}
 use Rattle.rules.specs.Stages
 use Rattle.laws.proofs.Tests.{picked}
 use Rattle.views.proofs.Rows.{entry-put}
 use Rattle.facts.specs.Facts.{Limited, Allowed, Kept}
 use Rattle.facts.specs.Reached.{Reached}
-use Rattle.facts.specs.Simulates.{decides}
 use Rattle.facts.proofs.Reaching.{reached-kept}
 use Rattle.handles.specs.Owned.{Row}
 use Rattle.handles.proofs.Keys.{live-once}
 use Rattle.holds.specs.Unlinked.{UnlinkedNone}
 use Rattle.holds.proofs.Holding.{reached-held}
 use Rattle.holds.proofs.Unlinked.{reached-unlinked}
-use Rattle.simulation.specs.Named.{NamedIn, LiveNamed}
+use Rattle.simulation.specs.Named.{LiveNamed}
 use Rattle.simulation.proofs.Acts.{Still, Swaps, Acts}
 use Rattle.simulation.proofs.Rows.{RowKept, frame}
 use Rattle.simulation.proofs.Living
@@ -102,6 +100,7 @@ module _ (z : Sizes) (lim : Limited z) (s : Tables) (r : Reached z s) (n : ℕ) 
       entry-put z (s .entries) (t .chunk) (t .entry) (Stages.withHandle (entry z s (t .chunk) (t .entry)) g) c e (λ y. RowKept z (entry z s c e) y ⊎ Renamed z s t c e y) (kept .tables .entries-sized) (w .row .chunk) (w .row .entry) (at .entry)
       (λ p q. inr (record { swaps = w; chunk = p; to = to })) (λ _. inl (refl, λ _. refl))
 
+  -- a row names what it named, or is the one that a swap has written
   row-step : {w : Write} → Acts z s t w → Allowed z (s .chunks) (s .entries) w → (c : ChunkNo) (e : EntryNo) → Row z c e → RowKept z (entry z s c e) (entry z (after w) c e) ⊎ Renamed z s t c e (entry z (after w) c e)
   row-step (Acts.still {w = w} v u) a c e at = inl (still-row w v a c e at)
   row-step (Acts.takes b u) a c e at = inl (refl, λ _. refl)

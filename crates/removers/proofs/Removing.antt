@@ -1,7 +1,7 @@
 -- Every call keeps the facts of removes past their mark.
 use Prim.Native.Nat.{ℕ, _≤_, _<_}
-use mathlib.Core.Path.{_≡_, refl, sym, ap, _∙_}
-use mathlib.Core.Logic.{_⊎_, inl, inr, ⊎-elim, _≢_}
+use mathlib.Core.Path.{_≡_, refl, ap, _∙_}
+use mathlib.Core.Logic.{_⊎_, ⊎-elim, _≢_}
 use mathlib.Core.List.{List}
 use native.Mathlib.Omega.{arith}
 use lib.Dec.{eqb, ltb, leb}
@@ -11,8 +11,8 @@ use Rattle.rules.specs.declared.Sizes.{Sizes}
 use Rattle.rules.specs.declared.Task.{Task}
 use Rattle.rules.specs.declared.Entry.{Entry}
 use Rattle.rules.specs.declared.Decision.{Decision}
-use Rattle.rules.specs.Words.{pick, _and_, _or_, usesFunction, scan}
-use Rattle.rules.specs.Tables.{Tables, idleTask, entryAt, task, putTask}
+use Rattle.rules.specs.Words.{_and_, _or_, usesFunction, scan}
+use Rattle.rules.specs.Tables.{Tables, idleTask, task, putTask}
 use Rattle.rules.specs.Stages
 use Rattle.rules.specs.Rebalance.{Outcome, begins}
 use Rattle.rules.specs.Calls.{Call, fresh, started, starts, steps, does, calls}

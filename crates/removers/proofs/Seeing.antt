@@ -1,8 +1,7 @@
 -- A step of a remove past its mark: it goes on while a live chunk names its handle, and sees the entry that does.
 use Prim.Native.Nat.{ℕ, _+_, _≤_, _<_}
 use mathlib.Core.Path.{_≡_, refl, sym, ap, _∙_, subst}
-use mathlib.Core.Logic.{_⊎_, inl, inr, _≢_}
-use mathlib.Core.Bool.{true, false}
+use mathlib.Core.Logic.{_≢_}
 use mathlib.Core.List.{List·Memᴰ}
 use native.Mathlib.Decide.{ℕ-discrete}
 use native.Mathlib.Omega.{arith}
@@ -11,7 +10,6 @@ use lib.ListN.{set}
 use borrow.Author.Tests.{ltb-true, ltb-false, eqb-true, eqb-false, eq-eqb}
 use Rattle.rules.specs.declared.Sizes.{Sizes}
 use Rattle.rules.specs.declared.Task.{Task}
-use Rattle.rules.specs.declared.Entry.{Entry}
 use Rattle.rules.specs.declared.ChunkNo.{ChunkNo}
 use Rattle.rules.specs.declared.EntryNo.{EntryNo}
 use Rattle.rules.specs.declared.HandleNo.{HandleNo}
@@ -20,10 +18,11 @@ use Rattle.rules.specs.Words.{NONE, noHandle}
 use Rattle.rules.specs.Tables.{Tables, idleTask, chunk, entry, task, withTasks}
 use Rattle.rules.specs.Walks.{locate, find, linked}
 use Rattle.rules.specs.Stages
+use Rattle.rules.specs.Shape.{Hold}
 use Rattle.laws.proofs.Tests.{picked}
 use Rattle.views.proofs.Rows.{entry-put}
 use Rattle.views.proofs.Entries.{links-one}
-use Rattle.facts.specs.Facts.{Limited, EntryHeld, Holds, holdAt, Tasked, Kept}
+use Rattle.facts.specs.Facts.{Limited, EntryHeld, Holds, holdAt, Kept}
 use Rattle.facts.specs.Reached.{Reached}
 use Rattle.facts.proofs.Covering.{only}
 use Rattle.facts.proofs.Going.{found-held, lacks-key}
@@ -38,8 +37,7 @@ use Rattle.simulation.proofs.Rows.{RowKept}
 use Rattle.simulation.proofs.Copied.{named-like}
 use Rattle.simulation.proofs.Living.{under}
 use Rattle.removers.specs.Removers.{NamedLive}
-use Rattle.removers.proofs.Late.{Late, decides-late, at-16, at-17, at-18, at-19, at-20}
-use Rattle.removers.proofs.Naming
+use Rattle.removers.proofs.Late.{decides-late, does-at}
 use Rattle.removers.proofs.Naming.{live-was, row-on}
 
 -- remover-sees and remover-done, of one task's row
@@ -52,6 +50,7 @@ pub record Sees (z : Sizes) (s : Tables) (y : Task) : Type 0 where
 pub sees-none : (z : Sizes) (s : Tables) (y : Task) → (17 ≤ y .stage → y .stage ≤ 21 → ⊥) → Sees z s y
 sees-none z s y far = record { chunk = λ a b. absurd (far a (omega arith)); entry = λ a b. absurd (far (omega arith) (omega arith)); done = λ e. absurd (far (omega arith) (omega arith)) }
 
+-- at the number, or past it
 up-from : (P : Type 0) (n m : ℕ) → m ≤ n → (n ≡ m → P) → (m + 1 ≤ n → P) → P
 up-from P n m a here on = elim (ℕ-discrete n m) [ yes e ↦ here e | no ne ↦ on (more ne) ]
   where
@@ -59,7 +58,7 @@ up-from P n m a here on = elim (ℕ-discrete n m) [ yes e ↦ here e | no ne ↦
     more ne = omega (arith, ne)
 
 -- by the stages of a remove past its mark
-by-stage : (P : Type 0) (n : ℕ) → 16 ≤ n → n ≤ 21 → (n ≡ 16 → P) → (n ≡ 17 → P) → (n ≡ 18 → P) → (n ≡ 19 → P) → (n ≡ 20 → P) → (n ≡ 21 → P) → P
+pub by-stage : (P : Type 0) (n : ℕ) → 16 ≤ n → n ≤ 21 → (n ≡ 16 → P) → (n ≡ 17 → P) → (n ≡ 18 → P) → (n ≡ 19 → P) → (n ≡ 20 → P) → (n ≡ 21 → P) → P
 by-stage P n a b f16 f17 f18 f19 f20 f21 = up-from P n 16 a f16 (λ c. up-from P n 17 c f17 (λ c. up-from P n 18 c f18 (λ c. up-from P n 19 c f19 (λ c. up-from P n 20 c f20 (λ c. f21 (omega arith))))))
 
 -- what a remove past its mark holds
@@ -80,16 +79,16 @@ module _ (z : Sizes) (lim : Limited z) (s : Tables) (r : Reached z s) where
       by-stage (Past z t) (t .stage) a b
       (λ e. record { old = ltb-true _ _ (holds-at 16 e (omega arith) .old); chunk = λ c. absurd (before c e); entry = λ c. absurd (before (omega arith) e) })
       (λ e. let H = holds-at 17 e (omega arith) in record { old = ltb-true _ _ (H .old); chunk = λ _. ltb-true _ _ (H .chunk); entry = λ c. absurd (not-yet c e) })
-      (λ e. let H = holds-at 18 e (omega arith) in record { old = ltb-true _ _ (H .old); chunk = λ _. ltb-true _ _ (H .chunk); entry = λ _. ltb-true _ _ (H .entry) })
-      (λ e. let H = holds-at 19 e (omega arith) in record { old = ltb-true _ _ (H .old); chunk = λ _. ltb-true _ _ (H .chunk); entry = λ _. ltb-true _ _ (H .entry) })
-      (λ e. let H = holds-at 20 e (omega arith) in record { old = ltb-true _ _ (H .old); chunk = λ _. ltb-true _ _ (H .chunk); entry = λ _. ltb-true _ _ (H .entry) })
-      (λ e. let H = holds-at 21 e (omega arith) in record { old = ltb-true _ _ (H .old); chunk = λ _. ltb-true _ _ (H .chunk); entry = λ _. ltb-true _ _ (H .entry) })
+      (λ e. all (holdAt 18) (holds-at 18 e (omega arith)) refl refl refl) (λ e. all (holdAt 19) (holds-at 19 e (omega arith)) refl refl refl) (λ e. all (holdAt 20) (holds-at 20 e (omega arith)) refl refl refl) (λ e. all (holdAt 21) (holds-at 21 e (omega arith)) refl refl refl)
     where
       t : Task
       t = task s n
 
       holds-at : (m : ℕ) → t .stage ≡ m → m ≢ 0 → Holds z t (holdAt m)
       holds-at = holding z (s .chunks) (s .entries) t (kept .tasks n)
+
+      all : (h : Hold) → Holds z t h → h .old ≡ 1 → h .chunk ≡ 1 → h .entry ≡ 1 → Past z t
+      all h H o c e = record { old = ltb-true _ _ (rw o at (H .old)); chunk = λ _. ltb-true _ _ (rw c at (H .chunk)); entry = λ _. ltb-true _ _ (rw e at (H .entry)) }
 
       before : 17 ≤ t .stage → t .stage ≡ 16 → ⊥
       before c e = omega arith
@@ -170,13 +169,14 @@ module _ (z : Sizes) (lim : Limited z) (s : Tables) (r : Reached z s) where
         GoesOn y = (y .task .old .0 ≡ t .old .0) × (16 ≤ y .task .stage) × (y .task .stage ≤ 21)
 
         pub goes-on : 16 ≤ t .stage → t .stage ≤ 21 → NamedLive z s (t .old .0) → GoesOn x
+        unfolding Stages.stageDoes
         goes-on a b v =
             by-stage (GoesOn x) (t .stage) a b
-            (λ e. subst GoesOn (sym (at-16 z s t e)) (refl, omega arith, omega arith))
-            (λ e. subst GoesOn (sym (at-17 z s t e)) (picked GoesOn (ltb (find z s (t .chunk) (t .key) .0) (z .entries)) (λ _. (refl, omega arith, omega arith)) (λ o. absurd (missed (p .chunk (omega arith)) (u .chunk (omega arith) (omega arith) v) (ltb-false _ _ o)))))
-            (λ e. subst GoesOn (sym (at-18 z s t e)) (picked GoesOn (eqb (entry z s (t .chunk) (t .entry) .handle .0) (t .old .0)) (λ _. (refl, omega arith, omega arith)) (λ o. absurd (eqb-false _ _ o (u .entry (omega arith) (omega arith) v)))))
-            (λ e. subst GoesOn (sym (at-19 z s t e)) (picked GoesOn (eqb (chunk s (t .chunk) .frozen) 0) (λ _. (refl, omega arith, omega arith)) (λ _. picked GoesOn (eqb (t .stage) 19) (λ _. (refl, omega arith, omega arith)) (λ o. absurd (eqb-false _ _ o e)))))
-            (λ e. subst GoesOn (sym (at-20 z s t e)) (picked GoesOn (eqb (entry z s (t .chunk) (t .entry) .handle .0) (t .old .0)) (λ _. (refl, omega arith, omega arith)) (λ _. (refl, omega arith, omega arith))))
+            (λ e. subst GoesOn (sym (does-at z s t 16 e)) (refl, omega arith, omega arith))
+            (λ e. subst GoesOn (sym (does-at z s t 17 e)) (picked GoesOn (ltb (find z s (t .chunk) (t .key) .0) (z .entries)) (λ _. (refl, omega arith, omega arith)) (λ o. absurd (missed (p .chunk (omega arith)) (u .chunk (omega arith) (omega arith) v) (ltb-false _ _ o)))))
+            (λ e. subst GoesOn (sym (does-at z s t 18 e)) (picked GoesOn (eqb (entry z s (t .chunk) (t .entry) .handle .0) (t .old .0)) (λ _. (refl, omega arith, omega arith)) (λ o. absurd (eqb-false _ _ o (u .entry (omega arith) (omega arith) v)))))
+            (λ e. subst GoesOn (sym (does-at z s t 19 e)) (picked GoesOn (eqb (chunk s (t .chunk) .frozen) 0) (λ _. (refl, omega arith, omega arith)) (λ _. picked GoesOn (eqb (t .stage) 19) (λ _. (refl, omega arith, omega arith)) (λ o. absurd (eqb-false _ _ o e)))))
+            (λ e. subst GoesOn (sym (does-at z s t 20 e)) (picked GoesOn (eqb (entry z s (t .chunk) (t .entry) .handle .0) (t .old .0)) (λ _. (refl, omega arith, omega arith)) (λ _. (refl, omega arith, omega arith))))
             (λ e. absurd (u .done e v))
 
         -- ---- and sees the entry
@@ -184,7 +184,8 @@ module _ (z : Sizes) (lim : Limited z) (s : Tables) (r : Reached z s) where
         SeesThen y = Sees z (after y) (y .task)
 
         sees-16 : t .stage ≡ 16 → SeesThen x
-        sees-16 e = subst SeesThen (sym (at-16 z s t e)) (record { chunk = λ _ _ v. in-located (p .old) v; entry = λ a _. absurd (before a); done = λ q. absurd (apart q) })
+        unfolding Stages.stageDoes
+        sees-16 e = subst SeesThen (sym (does-at z s t 16 e)) (record { chunk = λ _ _ v. in-located (p .old) v; entry = λ a _. absurd (before a); done = λ q. absurd (apart q) })
           where
             before : 18 ≤ t .stage + 1 → ⊥
             before a = omega arith
@@ -193,20 +194,23 @@ module _ (z : Sizes) (lim : Limited z) (s : Tables) (r : Reached z s) where
             apart q = omega arith
 
         sees-17 : t .stage ≡ 17 → SeesThen x
-        sees-17 e = subst SeesThen (sym (at-17 z s t e)) (picked SeesThen (ltb (find z s (t .chunk) (t .key) .0) (z .entries)) (λ i. record { chunk = λ _ _ v. u .chunk (omega arith) (omega arith) v; entry = λ _ _ v. found (p .chunk (omega arith)) (u .chunk (omega arith) (omega arith) v) (ltb-true _ _ i); done = λ q. absurd (apart q) }) (λ _. sees-none z _ idleTask (λ a _. omega arith)))
+        unfolding Stages.stageDoes
+        sees-17 e = subst SeesThen (sym (does-at z s t 17 e)) (picked SeesThen (ltb (find z s (t .chunk) (t .key) .0) (z .entries)) (λ i. record { chunk = λ _ _ v. u .chunk (omega arith) (omega arith) v; entry = λ _ _ v. found (p .chunk (omega arith)) (u .chunk (omega arith) (omega arith) v) (ltb-true _ _ i); done = λ q. absurd (apart q) }) (λ _. sees-none z _ idleTask (λ a _. omega arith)))
           where
             apart : _≡_ {A = ℕ} 18 21 → ⊥
             apart q = omega arith
 
         sees-18 : t .stage ≡ 18 → SeesThen x
-        sees-18 e = subst SeesThen (sym (at-18 z s t e)) (picked SeesThen (eqb (entry z s (t .chunk) (t .entry) .handle .0) (t .old .0)) (λ q. record { chunk = λ _ _ v. u .chunk (omega arith) (omega arith) v; entry = λ _ _ _. eqb-true _ _ q; done = λ q. absurd (apart q) }) (λ _. sees-none z _ idleTask (λ a _. omega arith)))
+        unfolding Stages.stageDoes
+        sees-18 e = subst SeesThen (sym (does-at z s t 18 e)) (picked SeesThen (eqb (entry z s (t .chunk) (t .entry) .handle .0) (t .old .0)) (λ q. record { chunk = λ _ _ v. u .chunk (omega arith) (omega arith) v; entry = λ _ _ _. eqb-true _ _ q; done = λ q. absurd (apart q) }) (λ _. sees-none z _ idleTask (λ a _. omega arith)))
           where
             apart : _≡_ {A = ℕ} 19 21 → ⊥
             apart q = omega arith
 
         sees-19 : t .stage ≡ 19 → SeesThen x
+        unfolding Stages.stageDoes
         sees-19 e =
-            subst SeesThen (sym (at-19 z s t e)) (picked SeesThen (eqb (chunk s (t .chunk) .frozen) 0) (λ _. record { chunk = λ _ _ v. u .chunk (omega arith) (omega arith) v; entry = λ _ _ v. u .entry (omega arith) (omega arith) v; done = λ q. absurd (apart q) })
+            subst SeesThen (sym (does-at z s t 19 e)) (picked SeesThen (eqb (chunk s (t .chunk) .frozen) 0) (λ _. record { chunk = λ _ _ v. u .chunk (omega arith) (omega arith) v; entry = λ _ _ v. u .entry (omega arith) (omega arith) v; done = λ q. absurd (apart q) })
             (λ _. picked SeesThen (eqb (t .stage) 19) (λ _. sees-none z _ _ (λ a _. omega arith)) (λ _. sees-none z _ _ (λ a _. omega arith))))
           where
             apart : t .stage + 1 ≡ 21 → ⊥
@@ -214,10 +218,11 @@ module _ (z : Sizes) (lim : Limited z) (s : Tables) (r : Reached z s) where
 
         -- the swap to none leaves no live chunk that names the handle
         sees-20 : t .stage ≡ 20 → SeesThen x
+        unfolding Stages.stageDoes
         sees-20 e = record { chunk = λ _ b. absurd (over b); entry = λ _ b. absurd (over b); done = λ _ v. gone (subst (λ (h : HandleNo). NamedLive z s′ (h .0)) (row .1) v) }
           where
             row : (x .task .stage ≡ 21) × (x .task .old ≡ t .old)
-            row = subst (λ (y : Decision). (y .task .stage ≡ 21) × (y .task .old ≡ t .old)) (sym (at-20 z s t e)) (picked (λ (y : Decision). (y .task .stage ≡ 21) × (y .task .old ≡ t .old)) (eqb (entry z s (t .chunk) (t .entry) .handle .0) (t .old .0)) (λ _. (omega arith, refl)) (λ _. (omega arith, refl)))
+            row = subst (λ (y : Decision). (y .task .stage ≡ 21) × (y .task .old ≡ t .old)) (sym (does-at z s t 20 e)) (picked (λ (y : Decision). (y .task .stage ≡ 21) × (y .task .old ≡ t .old)) (eqb (entry z s (t .chunk) (t .entry) .handle .0) (t .old .0)) (λ _. (omega arith, refl)) (λ _. (omega arith, refl)))
 
             over : x .task .stage ≤ 20 → ⊥
             over b = omega (arith, row .0)
@@ -226,7 +231,7 @@ module _ (z : Sizes) (lim : Limited z) (s : Tables) (r : Reached z s) where
             at = record { chunk = p .chunk (omega arith); entry = p .entry (omega arith) }
 
             dropped : entry z s (t .chunk) (t .entry) .handle .0 ≡ t .old .0 → entry z s′ (t .chunk) (t .entry) .handle .0 ≡ NONE
-            dropped q = subst (λ (y : Decision). entry z (after y) (t .chunk) (t .entry) .handle .0 ≡ NONE) (sym (at-20 z s t e)) (rw (eq-eqb _ _ q) (entry-put z (s .entries) (t .chunk) (t .entry) (Stages.withHandle (entry z s (t .chunk) (t .entry)) noHandle) (t .chunk) (t .entry) (λ y. y .handle .0 ≡ NONE) (kept .tables .entries-sized) (at .chunk) (at .entry) (at .entry) (λ _ _. refl) (λ ne. absurd (ne refl refl))))
+            dropped q = subst (λ (y : Decision). entry z (after y) (t .chunk) (t .entry) .handle .0 ≡ NONE) (sym (does-at z s t 20 e)) (rw (eq-eqb _ _ q) (entry-put z (s .entries) (t .chunk) (t .entry) (Stages.withHandle (entry z s (t .chunk) (t .entry)) noHandle) (t .chunk) (t .entry) (λ y. y .handle .0 ≡ NONE) (kept .tables .entries-sized) (at .chunk) (at .entry) (at .entry) (λ _ _. refl) (λ ne. absurd (ne refl refl))))
 
             gone : NamedLive z s′ (t .old .0) → ⊥
             gone v = omega (arith, lim .handles, p .old, q, dropped q, ap (λ (h : HandleNo). h .0) (row-stays n (p .old) v (t .chunk) (t .entry) at q .0))
