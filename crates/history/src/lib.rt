@@ -1,0 +1,1 @@
+// No function: every finished operation answers as the sequential map does.

@@ -1,0 +1,5 @@
+pub mod Late
+pub mod Naming
+pub mod Holding
+pub mod Seeing
+pub mod Removing

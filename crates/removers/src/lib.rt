@@ -1,0 +1,1 @@
+// No function: what a remove that has set its mark still has to see to.

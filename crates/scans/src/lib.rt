@@ -1,0 +1,1 @@
+// No function: a scan is judged pair by pair.

@@ -1,0 +1,1 @@
+// No function: handles do not run out while fewer keys are present than the sizes promise.
