@@ -1,5 +1,5 @@
 -- What the held chunk and the held handle show of a key, and what a call leaves of it.
-use Prim.Native.Nat.{ℕ, _+_, _/_, _≤_, _<_}
+use Prim.Native.Nat.{ℕ, _+_, _/_, _<_}
 use mathlib.Core.Path.{_≡_, refl, sym, ap, _∙_, subst}
 use mathlib.Core.Logic.{_⊎_, inl, inr, ⊎-elim, ⊎-map, _≢_}
 use mathlib.Core.Bool.{true}
@@ -11,13 +11,10 @@ use lib.Dec.{eqb, ltb, leb}
 use lib.ListN.{length, getD, set, take, drop}
 use borrow.Author.Tests.{ne-eqb, eqb-true, ltb-true}
 use Rattle.rules.specs.declared.Sizes.{Sizes}
-use Rattle.rules.specs.declared.Directory.{Directory}
 use Rattle.rules.specs.declared.Task.{Task}
-use Rattle.rules.specs.declared.Chunk.{Chunk}
 use Rattle.rules.specs.declared.Entry.{Entry}
 use Rattle.rules.specs.declared.ChunkNo.{ChunkNo}
 use Rattle.rules.specs.declared.EntryNo.{EntryNo}
-use Rattle.rules.specs.declared.Decision.{Decision}
 use Rattle.rules.specs.Words.{pick, noChunk, _and_, _or_, live, retired, usesFunction, scan, idle, toDrain, toCopy, toSwap, toRelease}
 use Rattle.rules.specs.Tables.{Tables, emptyChunk, withDirectory, withEntries, chunkAt, chunk, putChunk, entryAt, entry, mark, task}
 use Rattle.rules.specs.Walks.{linked, presentAt}
@@ -37,12 +34,12 @@ use Rattle.facts.proofs.Numbers.{holding}
 use Rattle.facts.proofs.Covering.{only}
 use Rattle.facts.proofs.SwapIn.{swap-by}
 use Rattle.facts.proofs.Making.{newRow}
-use Rattle.facts.proofs.Reaching.{does-kept, calls-does, reached-kept}
+use Rattle.facts.proofs.Reaching.{calls-does, reached-kept}
 use Rattle.handles.proofs.Keys.{reached-owned}
 use Rattle.holds.proofs.Holding.{reached-held}
 use Rattle.holds.proofs.Marks.{reached-marked}
 use Rattle.holds.proofs.Unlinked.{reached-unlinked}
-use Rattle.simulation.specs.Named.{NamedIn, LiveNamed, PresentBy}
+use Rattle.simulation.specs.Named.{NamedIn, LiveNamed}
 use Rattle.simulation.proofs.Rows.{RowKept, frame}
 use Rattle.simulation.proofs.Keeping.{reached-copied, kept-to}
 use Rattle.simulation.proofs.Moving.{begin-moves, rebalance-moves}
