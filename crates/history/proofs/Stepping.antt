@@ -36,7 +36,8 @@ use Rattle.facts.proofs.Reaching.{reached-kept}
 use Rattle.holds.proofs.Marks.{reached-marked}
 use Rattle.holds.proofs.Unlinked.{reached-unlinked}
 use Rattle.simulation.specs.Named.{PresentBy}
-use Rattle.history.specs.Goes.{past, looksIn, looksOld, ShownBy, Gone, ending, Onward, stepped, Follows, Goes}
+use Rattle.history.specs.Answers.{isAnswer}
+use Rattle.history.specs.Goes.{past, looksIn, looksOld, ShownBy, Gone, ending, Onward, stepped, Follows, Ends, Goes}
 use Rattle.history.proofs.Shown.{live-absent, entry-named}
 
 -- get, compute and remove answer on an absent key as they do where they have seen none
@@ -72,6 +73,11 @@ module _ (z : Sizes) (lim : Limited z) (s : Tables) (r : Reached z s) (n : ℕ) 
   stands m {b = false} e p q u v = (rw (e, p, q) refl, rw (e, u, v) refl)
 
   -- ---- it goes on
+  -- at a stage that looks at nothing nothing is shown
+  nowhere : (x : Decision) → looksIn (x .task .stage) ≡ false → looksOld (x .task .stage) ≡ false → Follows z s n x
+  nowhere x a b (Gone.chunk i _) = absurd (false≢true (sym a ∙ i))
+  nowhere x a b (Gone.old i _) = absurd (false≢true (sym b ∙ i))
+
   module _ {m : ℕ} {c : ChunkNo} {e : EntryNo} {o h : HandleNo} {p w : ℕ} {wr : Write} {rep : Report} where
     onward : m ≢ 0 → ending rep ≡ false → Onward t (record { task = Stages.goesTo t m c e o h p w; write = wr; report = rep })
     onward ne quiet = record { operation = refl; function = refl; argument = refl; key = λ _. refl; busy = ne; quiet = quiet }
@@ -81,11 +87,11 @@ module _ (z : Sizes) (lim : Limited z) (s : Tables) (r : Reached z s) (n : ℕ) 
 
     -- to a stage that looks at nothing
     away : {b : Bool} → Stands b → past (Stages.goesTo t m c e o h p w) ≡ b → m ≢ 0 → ending rep ≡ false → looksIn m ≡ false → looksOld m ≡ false → By (record { task = Stages.goesTo t m c e o h p w; write = wr; report = rep })
-    away st q ne quiet a b = goes st q ne quiet none
-      where
-        none : Follows z s n (record { task = Stages.goesTo t m c e o h p w; write = wr; report = rep })
-        none (Gone.chunk i _) = absurd (false≢true (sym a ∙ i))
-        none (Gone.old i _) = absurd (false≢true (sym b ∙ i))
+    away st q ne quiet a b = goes st q ne quiet (nowhere (record { task = Stages.goesTo t m c e o h p w; write = wr; report = rep }) a b)
+
+    -- to one past the deciding step
+    turning : past t ≡ false → past (Stages.goesTo t m c e o h p w) ≡ true → decides z s t ≡ true → t .operation ≢ scan → m ≢ 0 → ending rep ≡ false → looksIn m ≡ false → looksOld m ≡ false → By (record { task = Stages.goesTo t m c e o h p w; write = wr; report = rep })
+    turning was is d u ne quiet a b = Goes.turns (onward ne quiet) was is d u (nowhere (record { task = Stages.goesTo t m c e o h p w; write = wr; report = rep }) a b)
 
     -- with the same handle in hand
     still : {b : Bool} → Stands b → past (Stages.goesTo t m c e o h p w) ≡ b → m ≢ 0 → ending rep ≡ false → looksIn m ≡ false → looksOld (t .stage) ≡ true → o ≡ t .old → stepped z s n (record { task = Stages.goesTo t m c e o h p w; write = wr; report = rep }) .marks ≡ s .marks → By (record { task = Stages.goesTo t m c e o h p w; write = wr; report = rep })
@@ -99,7 +105,7 @@ module _ (z : Sizes) (lim : Limited z) (s : Tables) (r : Reached z s) (n : ℕ) 
   restarts st why quiet = away st refl (omega arith) quiet refl refl
 
   ends-absent : Stands false → Gone z s t → inserts (t .operation) ≡ false → By (Stages.finishesAbsent t)
-  ends-absent st g none-in = Goes.absent (st .0) (st .1) g (absent-answer (t .operation) (t .key) (t .argument) (t .function) none-in)
+  ends-absent st g none-in = Goes.answers refl (picked (λ (v : Report). isAnswer v ≡ true) (eqb (t .operation) get) (λ _. refl) (λ _. refl)) (Ends.absent (st .0) (st .1) g (absent-answer (t .operation) (t .key) (t .argument) (t .function) none-in))
 
   -- ---- 1 and 16
   -- a row put among the tasks leaves what is shown and what is present
@@ -165,13 +171,10 @@ module _ (z : Sizes) (lim : Limited z) (s : Tables) (r : Reached z s) (n : ℕ) 
     checks-goes =
         let st = stands 4 e refl refl refl refl in
         picked By (eqb (mark s (t .old)) 0)
-        (λ d. picked By (eqb (t .operation) get) (λ g. Goes.present (st .0) (st .1) old-in (eqb-true _ _ d) (λ m. rw (eqb-true (t .operation) get g) refl))
-        (λ _. picked By (eqb (t .operation) putIfAbsent) (λ i. Goes.present (st .0) (st .1) old-in (eqb-true _ _ d) (λ m. rw (eqb-true (t .operation) putIfAbsent i) refl)) (λ _. still st refl (omega arith) refl refl (rw e refl) refl refl)))
+        (λ d. picked By (eqb (t .operation) get) (λ g. Goes.answers refl refl (Ends.present (st .0) (st .1) (rw e refl) (eqb-true _ _ d) (λ m. rw (eqb-true (t .operation) get g) refl)))
+        (λ _. picked By (eqb (t .operation) putIfAbsent) (λ i. Goes.answers refl refl (Ends.present (st .0) (st .1) (rw e refl) (eqb-true _ _ d) (λ m. rw (eqb-true (t .operation) putIfAbsent i) refl))) (λ _. still st refl (omega arith) refl refl (rw e refl) refl refl)))
         (λ d. picked By (eqb (t .operation) get) (λ g. ends-absent st (Gone.old (rw e refl) (eqb-false _ _ d)) (rw (eqb-true (t .operation) get g) refl))
         (λ _. picked (λ m. By (Stages.moves (Stages.keeps t m) write.Nothing)) (inserts (t .operation)) (λ _. away st refl (omega arith) refl refl refl) (λ _. still st refl (omega arith) refl refl (rw e refl) refl refl)))
-      where
-        old-in : t .old .0 < z .handles
-        old-in = ltb-true _ _ (holds-at 4 e (omega arith) .old)
 
   module _ (e : t .stage ≡ 5) where
     unscanned : t .operation ≢ scan
@@ -184,8 +187,8 @@ module _ (z : Sizes) (lim : Limited z) (s : Tables) (r : Reached z s) (n : ℕ) 
     applies-goes : By (Stages.applies z s t)
     applies-goes =
         picked By (eqb (mark s (t .old)) 0)
-        (λ d. picked By (eqb (t .operation) remove) (λ q. Goes.turns (onward (omega arith) refl) early refl (rw (e, d) refl) unscanned)
-        (λ nr. picked By (eqb (t .operation) put) (λ q. Goes.changes early (rw (e, d) refl) unscanned (rw (eqb-true (t .operation) put q) refl)) (λ np. Goes.changes early (rw (e, d) refl) unscanned (answers-five nr np))))
+        (λ d. picked By (eqb (t .operation) remove) (λ q. turning early refl (rw (e, d) refl) unscanned (omega arith) refl refl refl)
+        (λ nr. picked By (eqb (t .operation) put) (λ q. Goes.answers refl refl (Ends.changes early (rw (e, d) refl) unscanned (rw (eqb-true (t .operation) put q) refl))) (λ np. Goes.answers refl (picked (λ (v : Report). isAnswer v ≡ true) (eqb (t .operation) compute) (λ _. refl) (λ _. refl)) (Ends.changes early (rw (e, d) refl) unscanned (answers-five nr np)))))
         (λ d. picked By (inserts (t .operation)) (λ _. restarts (early, rw (e, d) refl) report.Lost refl) (λ _. still (early, rw (e, d) refl) refl (omega arith) refl refl (rw e refl) refl refl))
       where
         early : past t ≡ false
@@ -203,7 +206,7 @@ module _ (z : Sizes) (lim : Limited z) (s : Tables) (r : Reached z s) (n : ℕ) 
       picked By (eqb (chunk s (t .chunk) .frozen) 0) (λ _. picked By (ltb (find z s (t .chunk) (t .key) .0) (z .entries)) (λ _. away st refl (omega arith) refl refl refl) (λ _. away st refl (omega arith) refl refl refl)) (λ _. restarts st report.Frozen refl)
 
   takes-handle-goes : t .stage ≡ 8 → By (Stages.takesHandle z s t)
-  takes-handle-goes e = let st = stands 8 e refl refl refl refl in picked By (ltb (lowestFree z s .0) (z .handles)) (λ _. away st refl (omega arith) refl refl refl) (λ _. Goes.refuses (st .0) (st .1) refl)
+  takes-handle-goes e = let st = stands 8 e refl refl refl refl in picked By (ltb (lowestFree z s .0) (z .handles)) (λ _. away st refl (omega arith) refl refl refl) (λ _. Goes.refuses refl (st .0) (st .1) refl)
 
   -- ---- 10, 13 and 19
   publishes-goes : (t .stage ≡ 10) ⊎ ((t .stage ≡ 13) ⊎ (t .stage ≡ 19)) → By (Stages.publishes z s t)
@@ -213,7 +216,7 @@ module _ (z : Sizes) (lim : Limited z) (s : Tables) (r : Reached z s) (n : ℕ) 
 
   -- ---- 11, 14 and 20
   swaps-goes : t .stage ≡ 11 → By (Stages.swaps z s t (t .new))
-  swaps-goes e = rw e (picked By (eqb (entry z s (t .chunk) (t .entry) .handle .0) (t .old .0)) (λ i. Goes.turns (onward (omega arith) refl) early refl (rw (e, i) refl) unscanned) (λ i. away (early, rw (e, i) refl) (rw not-yet refl) (omega arith) refl refl refl))
+  swaps-goes e = rw e (picked By (eqb (entry z s (t .chunk) (t .entry) .handle .0) (t .old .0)) (λ i. turning early refl (rw (e, i) refl) unscanned (omega arith) refl refl refl) (λ i. away (early, rw (e, i) refl) (rw not-yet refl) (omega arith) refl refl refl))
     where
       early : past t ≡ false
       early = rw e refl
@@ -230,7 +233,7 @@ module _ (z : Sizes) (lim : Limited z) (s : Tables) (r : Reached z s) (n : ℕ) 
 
   -- ---- 12 and 15
   ends-insertion-goes : t .stage ≡ 12 → By (Stages.endsInsertion z s t)
-  ends-insertion-goes e = picked By (eqb (t .swapped) 0) (λ i. restarts (rw (e, eqb-true (t .swapped) 0 i) refl, rw e refl) report.Lost refl) (λ i. Goes.tells (rw (e, swapped (eqb-false _ _ i)) refl) (rw e refl) answer)
+  ends-insertion-goes e = picked By (eqb (t .swapped) 0) (λ i. restarts (rw (e, eqb-true (t .swapped) 0 i) refl, rw e refl) report.Lost refl) (λ i. Goes.answers refl (picked (λ (v : Report). isAnswer v ≡ true) (eqb (t .operation) putIfAbsent) (λ _. refl) (λ _. refl)) (Ends.tells (rw (e, swapped (eqb-false _ _ i)) refl) (rw e refl) answer))
     where
       swapped : t .swapped ≢ 0 → t .swapped ≡ 1
       swapped ne = omega (arith, ne, leb-true (t .swapped) 1 (holds-at 12 e (omega arith) .swapped))
@@ -250,7 +253,7 @@ module _ (z : Sizes) (lim : Limited z) (s : Tables) (r : Reached z s) (n : ℕ) 
   -- ---- 17, 18 and 21
   -- a remove that has set its mark answers true
   removed : (m : ℕ) → t .stage ≡ m → throughout 8 (λ op. implies (fitsOperation op m) (eqb op remove)) ≡ true → m ≢ 0 → Stands true → By (Stages.finishes write.Nothing report.True)
-  removed m e all ne st = Goes.tells (st .0) (st .1) (rw (eqb-true (t .operation) remove (passes m (λ op. eqb op remove) all e ne)) refl)
+  removed m e all ne st = Goes.answers refl refl (Ends.tells (st .0) (st .1) (rw (eqb-true (t .operation) remove (passes m (λ op. eqb op remove) all e ne)) refl))
 
   finds-again-goes : t .stage ≡ 17 → By (Stages.findsAgain z s t)
   finds-again-goes e = let st = stands 17 e refl refl refl refl in picked By (ltb (find z s (t .chunk) (t .key) .0) (z .entries)) (λ _. away st refl (omega arith) refl refl refl) (λ _. removed 17 e refl (omega arith) st)
@@ -261,9 +264,9 @@ module _ (z : Sizes) (lim : Limited z) (s : Tables) (r : Reached z s) (n : ℕ) 
   -- ---- 22
   scans-goes : t .stage ≡ 22 → By (Stages.scans z s t)
   scans-goes e =
-      picked By (leb (t .argument) (t .key)) (λ _. Goes.scanned is-scan (st .0) (st .1) refl)
+      picked By (leb (t .argument) (t .key)) (λ _. Goes.answers refl refl (Ends.scanned is-scan))
       (λ _. picked By (ltb (firstPresent z s (locate z s (t .key)) (t .key) (t .argument) .0) (z .entries)) (λ _. on-from _ _ refl)
-      (λ _. picked By (ltb (chunk s (locate z s (t .key)) .next .0) (z .chunks)) (λ _. on-from _ _ refl) (λ _. Goes.scanned is-scan (st .0) (st .1) refl)))
+      (λ _. picked By (ltb (chunk s (locate z s (t .key)) .next .0) (z .chunks)) (λ _. on-from _ _ refl) (λ _. Goes.answers refl refl (Ends.scanned is-scan))))
     where
       st : Stands false
       st = stands 22 e refl refl refl refl
@@ -272,11 +275,7 @@ module _ (z : Sizes) (lim : Limited z) (s : Tables) (r : Reached z s) (n : ℕ) 
       is-scan = eqb-true (t .operation) scan (passes 22 (λ op. eqb op scan) refl e (omega arith))
 
       on-from : (k : ℕ) (rep : Report) → ending rep ≡ false → By (record { task = Stages.cursorAt t k; write = write.Nothing; report = rep })
-      on-from k rep quiet = Goes.on (record { operation = refl; function = refl; argument = refl; key = λ ne. absurd (ne is-scan); busy = λ q. omega (arith, e, q); quiet = quiet }) refl (st .1) away-from
-        where
-          away-from : Follows z s n (record { task = Stages.cursorAt t k; write = write.Nothing; report = rep })
-          away-from (Gone.chunk q _) = absurd (false≢true (rw e at q))
-          away-from (Gone.old q _) = absurd (false≢true (rw e at q))
+      on-from k rep quiet = Goes.on (record { operation = refl; function = refl; argument = refl; key = λ ne. absurd (ne is-scan); busy = λ q. omega (arith, e, q); quiet = quiet }) refl (st .1) (nowhere (record { task = Stages.cursorAt t k; write = write.Nothing; report = rep }) (rw e refl) (rw e refl))
 
   -- ---- a number that is no stage
   stays-goes : t .stage ≢ 0 → decides z s t ≡ false → By (Stages.stays z s t)

@@ -74,21 +74,24 @@ module _ (z : Sizes) (s : Tables) (n : ℕ) (x : Decision) where
   abbrev pub Follows : Type 0
   Follows = Gone z stepped (x .task) → Gone z s t ⊎ AbsentIn z stepped (t .key)
 
+  -- what its answer stands on
+  pub data Ends : Type 0 where
+    -- 5 but for a remove: it decides
+    changes : past t ≡ false → decides z s t ≡ true → t .operation ≢ scan → x .report ≡ changeAnswer (t .operation) → Ends
+    -- 12, 17, 18, 21: it has decided
+    tells : past t ≡ true → decides z s t ≡ false → x .report ≡ changeAnswer (t .operation) → Ends
+    -- 4: it has seen the key present
+    present : past t ≡ false → decides z s t ≡ false → looksOld (t .stage) ≡ true → mark s (t .old) ≡ 0 →
+        ((m : List Pair) → onPresent m (t .operation) (t .key) (t .argument) (t .function) (value s (t .old)) ≡ effect (x .report) m) → Ends
+    -- 2, 3, 4, 15: it has seen the key absent
+    absent : past t ≡ false → decides z s t ≡ false → Gone z s t → ((m : List Pair) → onAbsent m (t .operation) (t .key) (t .argument) (t .function) ≡ effect (x .report) m) → Ends
+    -- 22
+    scanned : t .operation ≡ scan → Ends
+
   pub data Goes : Type 0 where
-    -- it goes on
     on : Onward t x → past (x .task) ≡ past t → decides z s t ≡ false → Follows → Goes
     -- 5 of a remove, and 11: it decides, and goes on
-    turns : Onward t x → past t ≡ false → past (x .task) ≡ true → decides z s t ≡ true → t .operation ≢ scan → Goes
-    -- 5 of the others: it decides, and ends
-    changes : past t ≡ false → decides z s t ≡ true → t .operation ≢ scan → x .report ≡ changeAnswer (t .operation) → Goes
-    -- 12, 17, 18, 21: it has decided, and ends
-    tells : past t ≡ true → decides z s t ≡ false → x .report ≡ changeAnswer (t .operation) → Goes
-    -- 4: it has seen the key present, and ends
-    present : past t ≡ false → decides z s t ≡ false → t .old .0 < z .handles → mark s (t .old) ≡ 0 →
-        ((m : List Pair) → onPresent m (t .operation) (t .key) (t .argument) (t .function) (value s (t .old)) ≡ effect (x .report) m) → Goes
-    -- 2, 3, 4, 15: it has seen the key absent, and ends
-    absent : past t ≡ false → decides z s t ≡ false → Gone z s t → ((m : List Pair) → onAbsent m (t .operation) (t .key) (t .argument) (t .function) ≡ effect (x .report) m) → Goes
+    turns : Onward t x → past t ≡ false → past (x .task) ≡ true → decides z s t ≡ true → t .operation ≢ scan → Follows → Goes
+    answers : x .task .stage ≡ 0 → isAnswer (x .report) ≡ true → Ends → Goes
     -- 8: no handle is free
-    refuses : past t ≡ false → decides z s t ≡ false → x .report ≡ report.Refused 9 → Goes
-    -- 22: the scan ends
-    scanned : t .operation ≡ scan → past t ≡ false → decides z s t ≡ false → x .report ≡ report.Done → Goes
+    refuses : x .task .stage ≡ 0 → past t ≡ false → decides z s t ≡ false → x .report ≡ report.Refused 9 → Goes
