@@ -197,7 +197,7 @@ module _ (z : Sizes) (run : ℕ → Call) where
     run-turns i n = turns z lim (tablesAt z run i) (run-kept i) (run i) n
 
     module _ (n : ℕ) where
-      row-next : (i : ℕ) → taskAt z run (suc i) n ≡ task (calls z (tablesAt z run i) (run i) .tables) n
+      pub row-next : (i : ℕ) → taskAt z run (suc i) n ≡ task (calls z (tablesAt z run i) (run i) .tables) n
       row-next i = ap (λ (s : Tables). task s n) (tables-next i)
 
       -- an operation at work stays so while the task is at work
