@@ -15,7 +15,7 @@ use Rattle.rules.specs.Words.{_and_, _or_, scan}
 use Rattle.rules.specs.Tables.{Tables, task, value}
 use Rattle.rules.specs.Stages
 use Rattle.rules.specs.Rebalance.{Outcome}
-use Rattle.rules.specs.Calls.{Call}
+use Rattle.rules.specs.Calls.{Call, calls}
 use Rattle.rules.specs.Calls.Call.{step}
 use Rattle.rules.specs.Map.{Pair, lookup}
 use Rattle.map.proofs.Sequential.{on-absent, on-present}
@@ -23,7 +23,7 @@ use Rattle.facts.specs.Facts.{Limited}
 use Rattle.facts.specs.Simulates.{decides, changeAnswer}
 use Rattle.simulation.proofs.Living.{reached-lively}
 use Rattle.simulation.proofs.Simulating.{beside-holds}
-use Rattle.history.specs.Runs.{tablesAt, mapAt, reportAt, taskAt, Working}
+use Rattle.history.specs.Runs.{tablesAt, mapAt, reportAt, taskAt, DecidesAt, Working}
 use Rattle.history.specs.Answers.{isAnswer, NeverDecides, ByChange, ByLooking, Answers}
 use Rattle.history.specs.Turns.{Steps, Turn}
 use Rattle.history.specs.Goes.{past, ending, Ends, Goes}
@@ -63,16 +63,19 @@ module _ (z : Sizes) (lim : Limited z) (run : ℕ → Call) where
       Ended : Type 0
       Ended = (run i ≡ step n) × ((isAnswer (reportAt z run i) ≡ true) ⊎ (reportAt z run i ≡ report.Refused 9))
 
+      gone-on : (t : Task) → task (calls z s (run i) .tables) n ≡ t → t .stage ≢ 0 → Ended
+      gone-on t row still = absurd (still (sym (ap (λ (t : Task). t .stage) (row-next z run lim n i ∙ row)) ∙ done))
+
       by : Steps z s (run i) n → Goes z s n (Stages.decide z s (task s n)) → Ended
-      by b (Goes.on w _ _ _) = absurd (w .busy (sym (ap (λ (t : Task). t .stage) (row-next z run lim n i ∙ b .row)) ∙ done))
-      by b (Goes.turns w _ _ _ _ _) = absurd (w .busy (sym (ap (λ (t : Task). t .stage) (row-next z run lim n i ∙ b .row)) ∙ done))
+      by b (Goes.on w _ _ _) = gone-on (Stages.decide z s (task s n) .task) (b .row) (w .busy)
+      by b (Goes.turns w _ _ _ _ _) = gone-on (Stages.decide z s (task s n) .task) (b .row) (w .busy)
       by b (Goes.answers _ e _) = (b .call, inl (ap (λ (o : Outcome). isAnswer (o .report)) (b .done) ∙ e))
       by b (Goes.refuses _ _ _ e) = (b .call, inr (ap (λ (o : Outcome). o .report) (b .done) ∙ e))
 
       go : Turn z s (run i) n → Ended
       go (Turn.begins _ _ _ _ b) = absurd (busy (b .was))
       go (Turn.steps b) = by b (decides-goes z lim s (run-reached z run lim i) n busy)
-      go (Turn.rests b) = absurd (busy (sym (ap (λ (t : Task). t .stage) (row-next z run lim n i ∙ b .row)) ∙ done))
+      go (Turn.rests b) = gone-on (task s n) (b .row) busy
 
   -- ---- an operation's own step, call i + 1
   module _ (n op k a f j i : ℕ) (w : Working z run n op k a f j (suc i)) (e : run (suc i) ≡ step n) where
@@ -103,16 +106,22 @@ module _ (z : Sizes) (lim : Limited z) (run : ℕ → Call) where
     abbrev Answered : Report → Type 0
     Answered r = ByChange z run n op k a f j (suc i) r ⊎ ByLooking z run n op k a f j (suc i) r
 
+    quiet : decides z s t ≡ false → DecidesAt z run n (suc i) → ⊥
+    quiet = ghosts.decides-not z lim run n op k a f j i (w .before) g b
+
+    before : past t ≡ false → NeverDecides z run n j i
+    before = ghosts.undecided z lim run n op k a f j i (w .before) g b
+
     -- where it has not decided before, and does not now, it never decides
     never : past t ≡ false → decides z s t ≡ false → NeverDecides z run n j (suc i)
-    never was d = never-on z lim run n op k a f j i (ghosts.undecided z lim run n op k a f j i (w .before) g b was) (ghosts.decides-not z lim run n op k a f j i (w .before) g b d)
+    never was d = never-on z lim run n op k a f j i (before was) (quiet d)
 
     changed : x .report ≡ changeAnswer (t .operation) → ByChange z run n op k a f j (suc i) (changeAnswer op) → Answered (x .report)
     changed r c = inl (subst (ByChange z run n op k a f j (suc i)) (sym (r ∙ ap changeAnswer (g .started .operation))) c)
 
     by-end : op ≢ scan → Ends z s n x → Answered (x .report)
-    by-end ne (Ends.changes was d u r) = changed r (change-here z lim run n op k a f j i (ghosts.undecided z lim run n op k a f j i (w .before) g b was) (w .before) (g .started) ne (b .numbered) (record { own = e; deciding = d }))
-    by-end ne (Ends.tells is d r) = ⊎-elim (λ c. absurd (false≢true (sym (c .0) ∙ is))) (λ c. changed r (change-on z lim run n op k a f j i (c .1) (ghosts.decides-not z lim run n op k a f j i (w .before) g b d))) (g .decided)
+    by-end ne (Ends.changes was d u r) = changed r (change-here z lim run n op k a f j i (before was) (w .before) (g .started) ne (b .numbered) (record { own = e; deciding = d }))
+    by-end ne (Ends.tells is d r) = ⊎-elim (λ c. absurd (false≢true (sym (c .0) ∙ is))) (λ c. changed r (change-on z lim run n op k a f j i (c .1) (quiet d))) (g .decided)
     by-end ne (Ends.present was d l q right) = inr (record { never = never was d; moment = suc i; after = g .stepped (inr l); to = le-refl _; right = sym (asked m op k a f t (g .started) ne) ∙ on-present m (t .operation) (t .key) (t .argument) (t .function) (value s (t .old)) there ∙ right m })
       where
         inside : t .old .0 < z .handles

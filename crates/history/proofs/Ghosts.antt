@@ -60,6 +60,11 @@ is-none : (o : Option ℕ) → ((v : ℕ) → o ≡ some v → ⊥) → o ≡ no
 is-none none f = refl
 is-none (some v) f = absurd (f v refl)
 
+-- a task that shows none looks
+looking : {z : Sizes} {x : Tables} {t : Task} → Gone z x t → (looksIn (t .stage) ≡ true) ⊎ (looksOld (t .stage) ≡ true)
+looking (Gone.chunk q _) = inl q
+looking (Gone.old q _) = inr q
+
 module _ (z : Sizes) (lim : Limited z) (run : ℕ → Call) (n op k a f j : ℕ) where
   -- ---- moments
   pub absent-at : (i : ℕ) → AbsentIn z (tablesAt z run i) k → lookup (mapAt z run i) k ≡ none
@@ -112,23 +117,19 @@ module _ (z : Sizes) (lim : Limited z) (run : ℕ → Call) (n op k a f j : ℕ)
   begins-ghost i e s =
       record {
         started = record { operation = refl; function = refl; argument = refl; key = λ _. refl };
-        decided = inl (by-test (eqb op scan) (λ q. rw q refl) (λ q. rw q refl), λ x since le _. none x since le);
-        stepped = λ l. absurd (⊎-elim (λ q. false≢true (sym in-none ∙ q)) (λ q. false≢true (sym old-none ∙ q)) l);
-        seen = λ _ g. absurd (unseen g);
+        decided = inl (first .0, λ x since le _. none x since le);
+        stepped = λ l. absurd (blind l);
+        seen = λ _ y. absurd (blind (looking y));
       }
     where
       none : (x : ℕ) → j < x → x ≤ i → ⊥
       none x since le = omega (arith, e)
 
-      in-none : looksIn (started z s op k a f .stage) ≡ false
-      in-none = by-test (eqb op scan) (λ q. rw q refl) (λ q. rw q refl)
+      first : (past (started z s op k a f) ≡ false) × (looksIn (started z s op k a f .stage) ≡ false) × (looksOld (started z s op k a f .stage) ≡ false)
+      first = by-test (eqb op scan) (λ q. rw q (refl, refl, refl)) (λ q. rw q (refl, refl, refl))
 
-      old-none : looksOld (started z s op k a f .stage) ≡ false
-      old-none = by-test (eqb op scan) (λ q. rw q refl) (λ q. rw q refl)
-
-      unseen : {x : Tables} → Gone z x (started z s op k a f) → ⊥
-      unseen (Gone.chunk q _) = false≢true (sym in-none ∙ q)
-      unseen (Gone.old q _) = false≢true (sym old-none ∙ q)
+      blind : (looksIn (started z s op k a f .stage) ≡ true) ⊎ (looksOld (started z s op k a f .stage) ≡ true) → ⊥
+      blind = ⊎-elim (λ q. false≢true (sym (first .1) ∙ q)) (λ q. false≢true (sym (first .2) ∙ q))
 
   module _ (i : ℕ) (since : j < suc i) (g : GhostOf i (taskAt z run (suc i) n)) where
     abbrev s : Tables
@@ -159,10 +160,6 @@ module _ (z : Sizes) (lim : Limited z) (run : ℕ → Call) (n op k a f j : ℕ)
             seen = λ ne y. seen-on ne (λ _. stepped-later (suc i) (g .stepped (looking y))) (back y);
           }
         where
-          looking : {x : Tables} → Gone z x t → (looksIn (t .stage) ≡ true) ⊎ (looksOld (t .stage) ≡ true)
-          looking (Gone.chunk q _) = inl q
-          looking (Gone.old q _) = inr q
-
           back : Gone z (tablesAt z run (suc (suc i))) t → Gone z s t ⊎ AbsentIn z (tablesAt z run (suc (suc i))) (t .key)
           back = subst (λ (x : Tables). Gone z x t → Gone z s t ⊎ AbsentIn z x (t .key)) (sym (tables-next z run (suc i))) (gone-back z lim s (run-reached z run lim (suc i)) (run (suc i)) n (b .row))
 

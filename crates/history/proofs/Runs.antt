@@ -50,17 +50,15 @@ part e i = ap (λ (c : Call). getD (parts c) i 0) e
 pub step-task : {m n : ℕ} → step m ≡ step n → m ≡ n
 step-task e = part e 1
 
+-- two calls of different kinds are not one
+apart : {c d : Call} → eqb (getD (parts c) 0 0) (getD (parts d) 0 0) ≡ false → c ≡ d → ⊥
+apart ne e = eqb-false _ _ ne (part e 0)
+
 pub step-not-start : {m n op k a f : ℕ} → step m ≡ start n op k a f → ⊥
-step-not-start e = one (part e 0)
-  where
-    one : _≡_ {A = ℕ} 1 0 → ⊥
-    one q = omega arith
+step-not-start = apart refl
 
 refused-not-moved : (m : ℕ) → report.Refused m ≢ report.Moved
-refused-not-moved m e = zero-not-one (ap (λ (r : Report). told r .number) e)
-  where
-    zero-not-one : _≡_ {A = ℕ} 0 1 → ⊥
-    zero-not-one q = omega arith
+refused-not-moved m e = eqb-false 0 1 refl (ap (λ (r : Report). told r .number) e)
 
 -- past a list's length stands what stands for none
 getD-out : {A : Type 0} (l : List A) (i : ℕ) (d : A) → length l ≤ i → getD l i d ≡ d
@@ -152,20 +150,8 @@ module _ (z : Sizes) (lim : Limited z) (s : Tables) (kept : Kept z s) where
     unfolding does
     does-turn (start m op k a f) = start-turn m op k a f
     does-turn (step m) = step-turn m
-    does-turn (begin k) = still (begin k) (begins z s k) (ap (λ (ts : List Task). getD ts n idleTask) (begin-tasks z s k .0)) (λ e. absurd (two (part e 0))) (λ _ _ _ _ e. absurd (zero-two (part e 0)))
-      where
-        two : _≡_ {A = ℕ} 2 1 → ⊥
-        two q = omega arith
-
-        zero-two : _≡_ {A = ℕ} 2 0 → ⊥
-        zero-two q = omega arith
-    does-turn rebalance = still rebalance (does z s rebalance) (ap (λ (ts : List Task). getD ts n idleTask) (rebalance-tasks z s .0)) (λ e. absurd (three (part e 0))) (λ _ _ _ _ e. absurd (zero-three (part e 0)))
-      where
-        three : _≡_ {A = ℕ} 3 1 → ⊥
-        three q = omega arith
-
-        zero-three : _≡_ {A = ℕ} 3 0 → ⊥
-        zero-three q = omega arith
+    does-turn (begin k) = still (begin k) (begins z s k) (ap (λ (ts : List Task). getD ts n idleTask) (begin-tasks z s k .0)) (λ e. absurd (apart refl e)) (λ _ _ _ _ e. absurd (apart refl e))
+    does-turn rebalance = still rebalance (does z s rebalance) (ap (λ (ts : List Task). getD ts n idleTask) (rebalance-tasks z s .0)) (λ e. absurd (apart refl e)) (λ _ _ _ _ e. absurd (apart refl e))
 
   pub turns : (c : Call) (n : ℕ) → Turn z s c n
   turns c n = does-turn n c (calls-does z lim s kept c)

@@ -11,16 +11,17 @@ use lib.Dec.{eqb, ltb, leb}
 use lib.ListN.{length, getD, set, take, drop}
 use borrow.Author.Tests.{ne-eqb, eqb-true, ltb-true}
 use Rattle.rules.specs.declared.Sizes.{Sizes}
+use Rattle.rules.specs.declared.Directory.{Directory}
 use Rattle.rules.specs.declared.Task.{Task}
 use Rattle.rules.specs.declared.Entry.{Entry}
 use Rattle.rules.specs.declared.ChunkNo.{ChunkNo}
 use Rattle.rules.specs.declared.EntryNo.{EntryNo}
 use Rattle.rules.specs.Words.{pick, noChunk, _and_, _or_, live, retired, usesFunction, scan, idle, toDrain, toCopy, toSwap, toRelease}
-use Rattle.rules.specs.Tables.{Tables, emptyChunk, withDirectory, withEntries, chunkAt, chunk, putChunk, entryAt, entry, mark, task}
+use Rattle.rules.specs.Tables.{Tables, emptyChunk, withTasks, withDirectory, withEntries, chunkAt, chunk, putChunk, entryAt, entry, mark, task}
 use Rattle.rules.specs.Walks.{linked, presentAt}
 use Rattle.rules.specs.Stages
 use Rattle.rules.specs.Rebalance.{Outcome, unusedCount, unusedFrom, publishedOn, heldChunk, namingFrom, at, clears, copies, releases, rebalanceDoes}
-use Rattle.rules.specs.Calls.{Call, steps, does, calls}
+use Rattle.rules.specs.Calls.{Call, starts, steps, does, calls}
 use Rattle.rules.specs.Calls.Call.{start, step, begin, rebalance}
 use Rattle.laws.proofs.Tests.{picked, or-cases}
 use Rattle.views.specs.Views.{InRange}
@@ -115,32 +116,46 @@ module _ (z : Sizes) (lim : Limited z) (s : Tables) (r : Reached z s) where
   abbrev k₀ : Kept z s
   k₀ = reached-kept z lim r
 
+  -- what holds of the tables, whatever row of a task is put there, holds after a start
+  start-by : (P : Tables → Type 0) → P s → ((ts : List Task) → P (withTasks s ts)) → (n op k a f : ℕ) → P (starts z s n op k a f .tables)
+  start-by P same put n op k a f =
+      picked O (leb (z .tasks) n) (λ _. same)
+      (λ _. picked O (eqb (task s n .stage) 0)
+      (λ _. picked O (ltb op 1 or ltb 7 op or (usesFunction op and (ltb f 1 or ltb 3 f))) (λ _. same) (λ _. picked O (eqb op scan and ltb a k) (λ _. same) (λ _. put _)))
+      (λ _. same))
+    where
+      O : Outcome → Type 0
+      O o = P (o .tables)
+
+  -- what holds of the tables, and where the task's stage is done, holds after a step
+  step-by : (P : Tables → Type 0) → P s → (n : ℕ) → P (s′ z lim s k₀ n) → P (steps z s n .tables)
+  step-by P same n then-done = picked (λ (o : Outcome). P (o .tables)) (leb (z .tasks) n) (λ _. same) (λ _. picked (λ (o : Outcome). P (o .tables)) (eqb (task s n .stage) 0) (λ _. same) (λ _. then-done))
+
   -- an undeleted handle that a live chunk names stays named so
   module _ (h k : ℕ) (i : h < z .handles) (m : getD (s .marks) h 0 ≡ 0) (v : LiveNamed z (s .chunks) (s .entries) h k) where
-    abbrev LiveIn : Outcome → Type 0
-    LiveIn o = LiveNamed z (o .tables .chunks) (o .tables .entries) h k
+    abbrev LiveIn : Tables → Type 0
+    LiveIn x = LiveNamed z (x .chunks) (x .entries) h k
 
-    does-live : (c : Call) → LiveIn (does z s c)
+    does-live : (c : Call) → LiveIn (does z s c .tables)
     unfolding does
-    does-live (start n op k a f) =
-        picked LiveIn (leb (z .tasks) n) (λ _. v)
-        (λ _. picked LiveIn (eqb (task s n .stage) 0)
-        (λ _. picked LiveIn (ltb op 1 or ltb 7 op or (usesFunction op and (ltb f 1 or ltb 3 f))) (λ _. v) (λ _. picked LiveIn (eqb op scan and ltb a k) (λ _. v) (λ _. v)))
-        (λ _. v))
-    does-live (step n) = picked LiveIn (leb (z .tasks) n) (λ _. v) (λ _. picked LiveIn (eqb (task s n .stage) 0) (λ _. v) (λ _. live-on z lim s k₀ n (reached-marked z lim r) h k i m v))
+    does-live (start n op k a f) = start-by LiveIn v (λ _. v) n op k a f
+    does-live (step n) = step-by LiveIn v n (live-on z lim s k₀ n (reached-marked z lim r) h k i m v)
     does-live (begin j) = begin-moves z lim s k₀ (reached-owned z lim r) (reached-held z lim r) (reached-unlinked z lim r) (reached-copied z lim r) j .0 .to h k i v
     does-live rebalance = rebalance-moves z lim s k₀ (reached-owned z lim r) (reached-held z lim r) (reached-unlinked z lim r) (reached-copied z lim r) .0 .to h k i v
 
-    call-live : (c : Call) → LiveIn (calls z s c)
-    call-live c = subst LiveIn (sym (calls-does z lim s k₀ c)) (does-live c)
+    call-live : (c : Call) → LiveIn (calls z s c .tables)
+    call-live c = subst (λ (o : Outcome). LiveIn (o .tables)) (sym (calls-does z lim s k₀ c)) (does-live c)
 
   -- a retired chunk names what it named
   module _ (f : ChunkNo) (b : f .0 < z .chunks) (h k : ℕ) (i : h < z .handles) (v : NamedIn z (s .entries) f h k) where
-    abbrev Stays : Outcome → Type 0
-    Stays o = Kept z (o .tables) → chunkAt (o .tables .chunks) f .status ≡ retired → NamedIn z (o .tables .entries) f h k
+    abbrev Stays : Tables → Type 0
+    Stays x = Kept z x → chunkAt (x .chunks) f .status ≡ retired → NamedIn z (x .entries) f h k
 
-    step-stays : (n : ℕ) → Stays (steps z s n)
-    step-stays n = picked Stays (leb (z .tasks) n) (λ _ _ _. v) (λ _. picked Stays (eqb (task s n .stage) 0) (λ _ _ _. v) (λ _ _ q. kept-to z (s .entries) (s′ z lim s k₀ n .entries) f (rows q) i v))
+    abbrev StaysBy : Outcome → Type 0
+    StaysBy o = Stays (o .tables)
+
+    step-stays : (n : ℕ) → Stays (steps z s n .tables)
+    step-stays n = step-by Stays (λ _ _. v) n (λ _ q. kept-to z (s .entries) (s′ z lim s k₀ n .entries) f (rows q) i v)
       where
         not-there : chunkAt (s′ z lim s k₀ n .chunks) f .status ≡ retired → task s n .published ≡ 1 → f ≢ task s n .chunk
         not-there q p e = omega (arith, sym (same-status z lim s k₀ n f) ∙ q, ap (λ (c : ChunkNo). chunk s c .status) e ∙ reached-held z lim r .publisher-live n p .isLive)
@@ -170,35 +185,31 @@ module _ (z : Sizes) (lim : Limited z) (s : Tables) (r : Reached z s) where
         b₂ : ChunkNo
         b₂ = unusedFrom (drop (a .0 + 1) (s .chunks)) (a .0 + 1)
 
-    release-stays : Stays (releases z s)
-    release-stays = picked Stays (heldChunk (s .tasks) (s .directory .old)) (λ _ _ _. v) (λ _. early (releases-done) 0 stage (λ e. omega arith))
+    release-stays : Stays (releases z s .tables)
+    release-stays = picked StaysBy (heldChunk (s .tasks) (s .directory .old)) (λ _ _ _. v) (λ _. early x idle (rw (clears-is z (s .directory .old) s (z .entries) (withDirectory s to)) refl) (omega arith))
       where
-        releases-done : Tables
-        releases-done = putChunk (clears z s (z .entries) (withDirectory s (record { first = s .directory .first; stage = idle; old = noChunk; new = noChunk; second = noChunk })) (s .directory .old)) (s .directory .old) emptyChunk
+        to : Directory
+        to = record { first = s .directory .first; stage = idle; old = noChunk; new = noChunk; second = noChunk }
 
-        stage : releases-done .directory .stage ≡ 0
-        stage = rw (clears-is z (s .directory .old) s (z .entries) (withDirectory s (record { first = s .directory .first; stage = idle; old = noChunk; new = noChunk; second = noChunk }))) refl
+        x : Tables
+        x = putChunk (clears z s (z .entries) (withDirectory s to) (s .directory .old)) (s .directory .old) emptyChunk
 
-    does-stays : (c : Call) → Stays (does z s c)
+    does-stays : (c : Call) → Stays (does z s c .tables)
     unfolding does rebalanceDoes
-    does-stays (start n op k a g) =
-        picked Stays (leb (z .tasks) n) (λ _ _ _. v)
-        (λ _. picked Stays (eqb (task s n .stage) 0)
-        (λ _. picked Stays (ltb op 1 or ltb 7 op or (usesFunction op and (ltb g 1 or ltb 3 g))) (λ _ _ _. v) (λ _. picked Stays (eqb op scan and ltb a k) (λ _ _ _. v) (λ _ _ _. v)))
-        (λ _ _ _. v))
+    does-stays (start n op k a g) = start-by Stays (λ _ _. v) (λ _ _ _. v) n op k a g
     does-stays (step n) = step-stays n
-    does-stays (begin j) = picked Stays (eqb (s .directory .stage) idle) (λ _. picked Stays (ltb (unusedCount (s .chunks)) 2) (λ _ _ _. v) (λ _ _ _. v)) (λ _ _ _. v)
+    does-stays (begin j) = picked StaysBy (eqb (s .directory .stage) idle) (λ _. picked StaysBy (ltb (unusedCount (s .chunks)) 2) (λ _ _ _. v) (λ _ _ _. v)) (λ _ _ _. v)
     does-stays rebalance =
-        picked Q (eqb (s .directory .stage) toDrain) (λ _. picked Stays (publishedOn (s .tasks) (s .directory .old)) (λ _ _ _. v) (λ _ _ _. v))
-        (λ _. picked Q (eqb (s .directory .stage) toCopy) (λ _. early (copies z s .tables) toSwap copy-stage (λ e. omega arith))
+        picked Q (eqb (s .directory .stage) toDrain) (λ _. picked StaysBy (publishedOn (s .tasks) (s .directory .old)) (λ _ _ _. v) (λ _ _ _. v))
+        (λ _. picked Q (eqb (s .directory .stage) toCopy) (λ _. early (copies z s .tables) toSwap copy-stage (omega arith))
         (λ _. picked Q (eqb (s .directory .stage) toSwap) (λ _ _ _. swap-by z s (λ x. NamedIn z (x .entries) f h k) v (λ x e. e) (λ x e. e) (λ x e. e) (λ x e. e) (λ x d e. e))
         (λ _. picked Q (eqb (s .directory .stage) toRelease) (λ _. release-stays) (λ _ _ _. v))))
       where
         Q : (Sizes → Tables → Outcome) → Type 0
-        Q g = Stays (g z s)
+        Q g = StaysBy (g z s)
 
-    call-stays : (c : Call) → Stays (calls z s c)
-    call-stays c = subst Stays (sym (calls-does z lim s k₀ c)) (does-stays c)
+    call-stays : (c : Call) → Stays (calls z s c .tables)
+    call-stays c = subst StaysBy (sym (calls-does z lim s k₀ c)) (does-stays c)
 
   -- ---- a call that leaves the task's row: where it then shows none it did so before, or the key is absent now
   module _ (c : Call) (n : ℕ) where

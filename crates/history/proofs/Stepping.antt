@@ -23,7 +23,7 @@ use Rattle.rules.specs.Tables.{Tables, chunk, entry, mark, task, putTask}
 use Rattle.rules.specs.Walks.{locate, find, lowestFree, firstPresent}
 use Rattle.rules.specs.Stages
 use Rattle.rules.specs.Map.{Pair, effect, onAbsent}
-use Rattle.laws.proofs.Tests.{picked, by-test, or-cases}
+use Rattle.laws.proofs.Tests.{picked, by-test, or-cases, or-left, or-right}
 use Rattle.facts.specs.Facts.{Limited, Holds, holdAt, EntryHeld, Kept}
 use Rattle.facts.specs.Reached.{Reached}
 use Rattle.facts.specs.Simulates.{decides, changeAnswer}
@@ -39,6 +39,10 @@ use Rattle.simulation.specs.Named.{PresentBy}
 use Rattle.history.specs.Answers.{isAnswer}
 use Rattle.history.specs.Goes.{past, looksIn, looksOld, ShownBy, Gone, ending, Onward, stepped, Follows, Ends, Goes}
 use Rattle.history.proofs.Shown.{live-absent, entry-named}
+
+-- the operation goes on at a stage, with these holds, a write and a report
+abbrev goesBy : Task → ℕ → ChunkNo → EntryNo → HandleNo → HandleNo → ℕ → ℕ → Write → Report → Decision
+goesBy t m c e o h p w wr rep = record { task = Stages.goesTo t m c e o h p w; write = wr; report = rep }
 
 -- get, compute and remove answer on an absent key as they do where they have seen none
 absent-answer : (op k a f : ℕ) → inserts op ≡ false → (m : List Pair) → onAbsent m op k a f ≡ effect (pick (eqb op get) report.Absent report.False) m
@@ -68,41 +72,48 @@ module _ (z : Sizes) (lim : Limited z) (s : Tables) (r : Reached z s) (n : ℕ) 
   abbrev Stands : Bool → Type 0
   Stands b = (past t ≡ b) × (decides z s t ≡ false)
 
-  stands : (m : ℕ) {b : Bool} → t .stage ≡ m → eqb m 12 ≡ false → (leb 16 m and leb m 21) ≡ b → eqb m 11 ≡ false → eqb m 5 ≡ false → Stands b
-  stands m {b = true} e p q u v = (rw (e, q) refl, rw (e, u, v) refl)
-  stands m {b = false} e p q u v = (rw (e, p, q) refl, rw (e, u, v) refl)
+  -- at a stage other than 5, 11 and 12, by its number
+  stands : (m : ℕ) {b : Bool} → t .stage ≡ m → (eqb m 5 or (eqb m 11 or eqb m 12)) ≡ false → (leb 16 m and leb m 21) ≡ b → Stands b
+  stands m {b = b} e u q = (by b q, rw (e, or-left (eqb m 5) (eqb m 11 or eqb m 12) u, or-left (eqb m 11) (eqb m 12) late) refl)
+    where
+      late : (eqb m 11 or eqb m 12) ≡ false
+      late = or-right (eqb m 5) (eqb m 11 or eqb m 12) u
+
+      by : (b : Bool) → (leb 16 m and leb m 21) ≡ b → past t ≡ b
+      by true q = rw (e, q) refl
+      by false q = rw (e, q, or-right (eqb m 11) (eqb m 12) late) refl
 
   -- ---- it goes on
   -- at a stage that looks at nothing nothing is shown
-  nowhere : (x : Decision) → looksIn (x .task .stage) ≡ false → looksOld (x .task .stage) ≡ false → Follows z s n x
-  nowhere x a b (Gone.chunk i _) = absurd (false≢true (sym a ∙ i))
-  nowhere x a b (Gone.old i _) = absurd (false≢true (sym b ∙ i))
+  nowhere : (x : Decision) → (looksIn (x .task .stage) or looksOld (x .task .stage)) ≡ false → Follows z s n x
+  nowhere x q (Gone.chunk i _) = absurd (false≢true (sym (or-left (looksIn (x .task .stage)) (looksOld (x .task .stage)) q) ∙ i))
+  nowhere x q (Gone.old i _) = absurd (false≢true (sym (or-right (looksIn (x .task .stage)) (looksOld (x .task .stage)) q) ∙ i))
 
   module _ {m : ℕ} {c : ChunkNo} {e : EntryNo} {o h : HandleNo} {p w : ℕ} {wr : Write} {rep : Report} where
-    onward : m ≢ 0 → ending rep ≡ false → Onward t (record { task = Stages.goesTo t m c e o h p w; write = wr; report = rep })
-    onward ne quiet = record { operation = refl; function = refl; argument = refl; key = λ _. refl; busy = ne; quiet = quiet }
+    onward : eqb m 0 ≡ false → ending rep ≡ false → Onward t (goesBy t m c e o h p w wr rep)
+    onward ne quiet = record { operation = refl; function = refl; argument = refl; key = λ _. refl; busy = eqb-false m 0 ne; quiet = quiet }
 
-    goes : {b : Bool} → Stands b → past (Stages.goesTo t m c e o h p w) ≡ b → m ≢ 0 → ending rep ≡ false → Follows z s n (record { task = Stages.goesTo t m c e o h p w; write = wr; report = rep }) → By (record { task = Stages.goesTo t m c e o h p w; write = wr; report = rep })
+    goes : {b : Bool} → Stands b → past (Stages.goesTo t m c e o h p w) ≡ b → eqb m 0 ≡ false → ending rep ≡ false → Follows z s n (goesBy t m c e o h p w wr rep) → By (goesBy t m c e o h p w wr rep)
     goes st q ne quiet f = Goes.on (onward ne quiet) (q ∙ sym (st .0)) (st .1) f
 
     -- to a stage that looks at nothing
-    away : {b : Bool} → Stands b → past (Stages.goesTo t m c e o h p w) ≡ b → m ≢ 0 → ending rep ≡ false → looksIn m ≡ false → looksOld m ≡ false → By (record { task = Stages.goesTo t m c e o h p w; write = wr; report = rep })
-    away st q ne quiet a b = goes st q ne quiet (nowhere (record { task = Stages.goesTo t m c e o h p w; write = wr; report = rep }) a b)
+    away : {b : Bool} → Stands b → past (Stages.goesTo t m c e o h p w) ≡ b → (eqb m 0 or (looksIn m or looksOld m)) ≡ false → ending rep ≡ false → By (goesBy t m c e o h p w wr rep)
+    away st q ne quiet = goes st q (or-left (eqb m 0) (looksIn m or looksOld m) ne) quiet (nowhere (goesBy t m c e o h p w wr rep) (or-right (eqb m 0) (looksIn m or looksOld m) ne))
 
     -- to one past the deciding step
-    turning : past t ≡ false → past (Stages.goesTo t m c e o h p w) ≡ true → decides z s t ≡ true → t .operation ≢ scan → m ≢ 0 → ending rep ≡ false → looksIn m ≡ false → looksOld m ≡ false → By (record { task = Stages.goesTo t m c e o h p w; write = wr; report = rep })
-    turning was is d u ne quiet a b = Goes.turns (onward ne quiet) was is d u (nowhere (record { task = Stages.goesTo t m c e o h p w; write = wr; report = rep }) a b)
+    turning : past t ≡ false → past (Stages.goesTo t m c e o h p w) ≡ true → decides z s t ≡ true → t .operation ≢ scan → (eqb m 0 or (looksIn m or looksOld m)) ≡ false → ending rep ≡ false → By (goesBy t m c e o h p w wr rep)
+    turning was is d u ne quiet = Goes.turns (onward (or-left (eqb m 0) (looksIn m or looksOld m) ne) quiet) was is d u (nowhere (goesBy t m c e o h p w wr rep) (or-right (eqb m 0) (looksIn m or looksOld m) ne))
 
     -- with the same handle in hand
-    still : {b : Bool} → Stands b → past (Stages.goesTo t m c e o h p w) ≡ b → m ≢ 0 → ending rep ≡ false → looksIn m ≡ false → looksOld (t .stage) ≡ true → o ≡ t .old → stepped z s n (record { task = Stages.goesTo t m c e o h p w; write = wr; report = rep }) .marks ≡ s .marks → By (record { task = Stages.goesTo t m c e o h p w; write = wr; report = rep })
-    still st q ne quiet a was same marks = goes st q ne quiet seen
+    still : {b : Bool} → Stands b → past (Stages.goesTo t m c e o h p w) ≡ b → (eqb m 0 or looksIn m) ≡ false → ending rep ≡ false → looksOld (t .stage) ≡ true → o ≡ t .old → stepped z s n (goesBy t m c e o h p w wr rep) .marks ≡ s .marks → By (goesBy t m c e o h p w wr rep)
+    still st q ne quiet was same marks = goes st q (or-left (eqb m 0) (looksIn m) ne) quiet seen
       where
-        seen : Follows z s n (record { task = Stages.goesTo t m c e o h p w; write = wr; report = rep })
-        seen (Gone.chunk i _) = absurd (false≢true (sym a ∙ i))
+        seen : Follows z s n (goesBy t m c e o h p w wr rep)
+        seen (Gone.chunk i _) = absurd (false≢true (sym (or-right (eqb m 0) (looksIn m) ne) ∙ i))
         seen (Gone.old i d) = inl (Gone.old was (λ i. d (ap (λ (l : List ℕ). getD l (o .0) 0) marks ∙ ap (λ (h : HandleNo). mark s h) same ∙ i)))
 
   restarts : Stands false → (why : Report) → ending why ≡ false → By (Stages.restarts t why)
-  restarts st why quiet = away st refl (omega arith) quiet refl refl
+  restarts st why quiet = away st refl refl quiet
 
   ends-absent : Stands false → Gone z s t → inserts (t .operation) ≡ false → By (Stages.finishesAbsent t)
   ends-absent st g none-in = Goes.answers refl (picked (λ (v : Report). isAnswer v ≡ true) (eqb (t .operation) get) (λ _. refl) (λ _. refl)) (Ends.absent (st .0) (st .1) g (absent-answer (t .operation) (t .key) (t .argument) (t .function) none-in))
@@ -116,12 +127,12 @@ module _ (z : Sizes) (lim : Limited z) (s : Tables) (r : Reached z s) (n : ℕ) 
   present-put y p = record { handle = p .handle; inside = p .inside; named = p .named; undeleted = p .undeleted; valued = p .valued }
 
   locates-goes : (t .stage ≡ 1) ⊎ (t .stage ≡ 16) → By (Stages.locates z s t)
-  locates-goes (inl e) = rw e (goes (stands 1 e refl refl refl refl) refl (omega arith) refl found)
+  locates-goes (inl e) = rw e (goes (stands 1 e refl refl) refl refl refl found)
     where
       found : Follows z s n (Stages.moves (Stages.goesTo t 2 (locate z s (t .key)) noEntry (t .old) noHandle 0 0) write.Nothing)
       found (Gone.chunk q gone) = inr (λ v p. live-absent z lim s r (locate z s (t .key)) (t .key) (covers z lim s kept (t .key) .0) (covers z lim s kept (t .key) .1) (λ y. gone (shown-put _ y)) v (present-put _ p))
       found (Gone.old q d) = absurd (false≢true q)
-  locates-goes (inr e) = rw e (away (stands 16 e refl refl refl refl) refl (omega arith) refl refl refl)
+  locates-goes (inr e) = rw e (away (stands 16 e refl refl) refl refl refl)
 
   -- ---- 2 and 3
   module _ (e : t .stage ≡ 2) where
@@ -136,9 +147,9 @@ module _ (z : Sizes) (lim : Limited z) (s : Tables) (r : Reached z s) (n : ℕ) 
 
     finds-goes : By (Stages.finds z s t)
     finds-goes =
-        picked By (ltb (find z s (t .chunk) (t .key) .0) (z .entries)) (λ _. goes (stands 2 e refl refl refl refl) refl (omega arith) refl found)
-        (λ out. picked By (inserts (t .operation)) (λ _. away (stands 2 e refl refl refl refl) refl (omega arith) refl refl refl)
-        (ends-absent (stands 2 e refl refl refl refl) (Gone.chunk (rw e refl) (missed (ltb-false _ _ out)))))
+        picked By (ltb (find z s (t .chunk) (t .key) .0) (z .entries)) (λ _. goes (stands 2 e refl refl) refl refl refl found)
+        (λ out. picked By (inserts (t .operation)) (λ _. away (stands 2 e refl refl) refl refl refl)
+        (ends-absent (stands 2 e refl refl) (Gone.chunk (rw e refl) (missed (ltb-false _ _ out)))))
       where
         found : Follows z s n (Stages.moves (Stages.goesTo t 3 (t .chunk) (find z s (t .chunk) (t .key)) noHandle noHandle 0 0) write.Nothing)
         found (Gone.chunk q gone) = inl (Gone.chunk (rw e refl) (λ v. gone (shown-put _ v)))
@@ -154,9 +165,9 @@ module _ (z : Sizes) (lim : Limited z) (s : Tables) (r : Reached z s) (n : ℕ) 
 
     reads-goes : By (Stages.reads z s t)
     reads-goes =
-        picked By (ltb (entry z s (t .chunk) (t .entry) .handle .0) (z .handles)) (λ _. goes (stands 3 e refl refl refl refl) refl (omega arith) refl read)
-        (λ out. picked By (inserts (t .operation)) (λ _. away (stands 3 e refl refl refl refl) refl (omega arith) refl refl refl)
-        (ends-absent (stands 3 e refl refl refl refl) (Gone.chunk (rw e refl) (none (ltb-false _ _ out)))))
+        picked By (ltb (entry z s (t .chunk) (t .entry) .handle .0) (z .handles)) (λ _. goes (stands 3 e refl refl) refl refl refl read)
+        (λ out. picked By (inserts (t .operation)) (λ _. away (stands 3 e refl refl) refl refl refl)
+        (ends-absent (stands 3 e refl refl) (Gone.chunk (rw e refl) (none (ltb-false _ _ out)))))
       where
         read : Follows z s n (Stages.moves (Stages.goesTo t 4 (t .chunk) (t .entry) (entry z s (t .chunk) (t .entry) .handle) noHandle 0 0) write.Nothing)
         read (Gone.chunk q gone) = absurd (false≢true q)
@@ -169,12 +180,12 @@ module _ (z : Sizes) (lim : Limited z) (s : Tables) (r : Reached z s) (n : ℕ) 
   module _ (e : t .stage ≡ 4) where
     checks-goes : By (Stages.checks z s t)
     checks-goes =
-        let st = stands 4 e refl refl refl refl in
+        let st = stands 4 e refl refl in
         picked By (eqb (mark s (t .old)) 0)
         (λ d. picked By (eqb (t .operation) get) (λ g. Goes.answers refl refl (Ends.present (st .0) (st .1) (rw e refl) (eqb-true _ _ d) (λ m. rw (eqb-true (t .operation) get g) refl)))
-        (λ _. picked By (eqb (t .operation) putIfAbsent) (λ i. Goes.answers refl refl (Ends.present (st .0) (st .1) (rw e refl) (eqb-true _ _ d) (λ m. rw (eqb-true (t .operation) putIfAbsent i) refl))) (λ _. still st refl (omega arith) refl refl (rw e refl) refl refl)))
+        (λ _. picked By (eqb (t .operation) putIfAbsent) (λ i. Goes.answers refl refl (Ends.present (st .0) (st .1) (rw e refl) (eqb-true _ _ d) (λ m. rw (eqb-true (t .operation) putIfAbsent i) refl))) (λ _. still st refl refl refl (rw e refl) refl refl)))
         (λ d. picked By (eqb (t .operation) get) (λ g. ends-absent st (Gone.old (rw e refl) (eqb-false _ _ d)) (rw (eqb-true (t .operation) get g) refl))
-        (λ _. picked (λ m. By (Stages.moves (Stages.keeps t m) write.Nothing)) (inserts (t .operation)) (λ _. away st refl (omega arith) refl refl refl) (λ _. still st refl (omega arith) refl refl (rw e refl) refl refl)))
+        (λ _. picked (λ m. By (Stages.moves (Stages.keeps t m) write.Nothing)) (inserts (t .operation)) (λ _. away st refl refl refl) (λ _. still st refl refl refl (rw e refl) refl refl)))
 
   module _ (e : t .stage ≡ 5) where
     unscanned : t .operation ≢ scan
@@ -187,9 +198,9 @@ module _ (z : Sizes) (lim : Limited z) (s : Tables) (r : Reached z s) (n : ℕ) 
     applies-goes : By (Stages.applies z s t)
     applies-goes =
         picked By (eqb (mark s (t .old)) 0)
-        (λ d. picked By (eqb (t .operation) remove) (λ q. turning early refl (rw (e, d) refl) unscanned (omega arith) refl refl refl)
+        (λ d. picked By (eqb (t .operation) remove) (λ q. turning early refl (rw (e, d) refl) unscanned refl refl)
         (λ nr. picked By (eqb (t .operation) put) (λ q. Goes.answers refl refl (Ends.changes early (rw (e, d) refl) unscanned (rw (eqb-true (t .operation) put q) refl))) (λ np. Goes.answers refl (picked (λ (v : Report). isAnswer v ≡ true) (eqb (t .operation) compute) (λ _. refl) (λ _. refl)) (Ends.changes early (rw (e, d) refl) unscanned (answers-five nr np)))))
-        (λ d. picked By (inserts (t .operation)) (λ _. restarts (early, rw (e, d) refl) report.Lost refl) (λ _. still (early, rw (e, d) refl) refl (omega arith) refl refl (rw e refl) refl refl))
+        (λ d. picked By (inserts (t .operation)) (λ _. restarts (early, rw (e, d) refl) report.Lost refl) (λ _. still (early, rw (e, d) refl) refl refl refl (rw e refl) refl refl))
       where
         early : past t ≡ false
         early = rw e refl
@@ -197,26 +208,26 @@ module _ (z : Sizes) (lim : Limited z) (s : Tables) (r : Reached z s) (n : ℕ) 
   -- ---- 6 to 9
   takes-entry-goes : t .stage ≡ 6 → By (Stages.takesEntry z s t)
   takes-entry-goes e =
-      let st = stands 6 e refl refl refl refl in
-      picked By (eqb (chunk s (t .chunk) .frozen) 0) (λ _. picked By (ltb (chunk s (t .chunk) .used) (z .entries)) (λ _. away st refl (omega arith) refl refl refl) (λ _. restarts st report.Full refl)) (λ _. restarts st report.Frozen refl)
+      let st = stands 6 e refl refl in
+      picked By (eqb (chunk s (t .chunk) .frozen) 0) (λ _. picked By (ltb (chunk s (t .chunk) .used) (z .entries)) (λ _. away st refl refl refl) (λ _. restarts st report.Full refl)) (λ _. restarts st report.Frozen refl)
 
   links-goes : t .stage ≡ 7 → By (Stages.links z s t)
   links-goes e =
-      let st = stands 7 e refl refl refl refl in
-      picked By (eqb (chunk s (t .chunk) .frozen) 0) (λ _. picked By (ltb (find z s (t .chunk) (t .key) .0) (z .entries)) (λ _. away st refl (omega arith) refl refl refl) (λ _. away st refl (omega arith) refl refl refl)) (λ _. restarts st report.Frozen refl)
+      let st = stands 7 e refl refl in
+      picked By (eqb (chunk s (t .chunk) .frozen) 0) (λ _. picked By (ltb (find z s (t .chunk) (t .key) .0) (z .entries)) (λ _. away st refl refl refl) (λ _. away st refl refl refl)) (λ _. restarts st report.Frozen refl)
 
   takes-handle-goes : t .stage ≡ 8 → By (Stages.takesHandle z s t)
-  takes-handle-goes e = let st = stands 8 e refl refl refl refl in picked By (ltb (lowestFree z s .0) (z .handles)) (λ _. away st refl (omega arith) refl refl refl) (λ _. Goes.refuses refl (st .0) (st .1) refl)
+  takes-handle-goes e = let st = stands 8 e refl refl in picked By (ltb (lowestFree z s .0) (z .handles)) (λ _. away st refl refl refl) (λ _. Goes.refuses refl (st .0) (st .1) refl)
 
   -- ---- 10, 13 and 19
   publishes-goes : (t .stage ≡ 10) ⊎ ((t .stage ≡ 13) ⊎ (t .stage ≡ 19)) → By (Stages.publishes z s t)
-  publishes-goes (inl e) = let st = stands 10 e refl refl refl refl in rw e (picked By (eqb (chunk s (t .chunk) .frozen) 0) (λ _. away st refl (omega arith) refl refl refl) (λ _. restarts st report.Frozen refl))
-  publishes-goes (inr (inl e)) = let st = stands 13 e refl refl refl refl in rw e (picked By (eqb (chunk s (t .chunk) .frozen) 0) (λ _. still st refl (omega arith) refl refl (rw e refl) refl refl) (λ _. restarts st report.Frozen refl))
-  publishes-goes (inr (inr e)) = let st = stands 19 e refl refl refl refl in rw e (picked By (eqb (chunk s (t .chunk) .frozen) 0) (λ _. away st refl (omega arith) refl refl refl) (λ _. away st refl (omega arith) refl refl refl))
+  publishes-goes (inl e) = let st = stands 10 e refl refl in rw e (picked By (eqb (chunk s (t .chunk) .frozen) 0) (λ _. away st refl refl refl) (λ _. restarts st report.Frozen refl))
+  publishes-goes (inr (inl e)) = let st = stands 13 e refl refl in rw e (picked By (eqb (chunk s (t .chunk) .frozen) 0) (λ _. still st refl refl refl (rw e refl) refl refl) (λ _. restarts st report.Frozen refl))
+  publishes-goes (inr (inr e)) = let st = stands 19 e refl refl in rw e (picked By (eqb (chunk s (t .chunk) .frozen) 0) (λ _. away st refl refl refl) (λ _. away st refl refl refl))
 
   -- ---- 11, 14 and 20
   swaps-goes : t .stage ≡ 11 → By (Stages.swaps z s t (t .new))
-  swaps-goes e = rw e (picked By (eqb (entry z s (t .chunk) (t .entry) .handle .0) (t .old .0)) (λ i. turning early refl (rw (e, i) refl) unscanned (omega arith) refl refl refl) (λ i. away (early, rw (e, i) refl) (rw not-yet refl) (omega arith) refl refl refl))
+  swaps-goes e = rw e (picked By (eqb (entry z s (t .chunk) (t .entry) .handle .0) (t .old .0)) (λ i. turning early refl (rw (e, i) refl) unscanned refl refl) (λ i. away (early, rw (e, i) refl) (rw not-yet refl) refl refl))
     where
       early : past t ≡ false
       early = rw e refl
@@ -228,8 +239,8 @@ module _ (z : Sizes) (lim : Limited z) (s : Tables) (r : Reached z s) (n : ℕ) 
       unscanned q = false≢true (rw q at (passes 11 (λ op. not (eqb op scan)) refl e (omega arith)))
 
   clears-goes : (t .stage ≡ 14) ⊎ (t .stage ≡ 20) → By (Stages.swaps z s t noHandle)
-  clears-goes (inl e) = let st = stands 14 e refl refl refl refl in rw e (picked By (eqb (entry z s (t .chunk) (t .entry) .handle .0) (t .old .0)) (λ _. still st refl (omega arith) refl refl (rw e refl) refl refl) (λ _. still st refl (omega arith) refl refl (rw e refl) refl refl))
-  clears-goes (inr e) = let st = stands 20 e refl refl refl refl in rw e (picked By (eqb (entry z s (t .chunk) (t .entry) .handle .0) (t .old .0)) (λ _. away st refl (omega arith) refl refl refl) (λ _. away st refl (omega arith) refl refl refl))
+  clears-goes (inl e) = let st = stands 14 e refl refl in rw e (picked By (eqb (entry z s (t .chunk) (t .entry) .handle .0) (t .old .0)) (λ _. still st refl refl refl (rw e refl) refl refl) (λ _. still st refl refl refl (rw e refl) refl refl))
+  clears-goes (inr e) = let st = stands 20 e refl refl in rw e (picked By (eqb (entry z s (t .chunk) (t .entry) .handle .0) (t .old .0)) (λ _. away st refl refl refl) (λ _. away st refl refl refl))
 
   -- ---- 12 and 15
   ends-insertion-goes : t .stage ≡ 12 → By (Stages.endsInsertion z s t)
@@ -242,7 +253,7 @@ module _ (z : Sizes) (lim : Limited z) (s : Tables) (r : Reached z s) (n : ℕ) 
       answer = ⊎-elim (λ i. rw (eqb-true (t .operation) put i) refl) (λ q. ⊎-elim (λ i. rw (eqb-true (t .operation) putIfAbsent i) refl) (λ i. rw (eqb-true (t .operation) upsert i) refl) (or-cases _ _ q)) (or-cases _ _ (passes 12 (λ op. eqb op put or (eqb op putIfAbsent or eqb op upsert)) refl e (omega arith)))
 
   ends-absent-goes : t .stage ≡ 15 → By (Stages.endsAbsent z s t)
-  ends-absent-goes e = let st = stands 15 e refl refl refl refl in picked By (eqb (t .swapped) 0) (λ _. restarts st report.Lost refl) (λ _. ends-absent st (Gone.old (rw e refl) deleted) no-insertion)
+  ends-absent-goes e = let st = stands 15 e refl refl in picked By (eqb (t .swapped) 0) (λ _. restarts st report.Lost refl) (λ _. ends-absent st (Gone.old (rw e refl) deleted) no-insertion)
     where
       deleted : mark s (t .old) ≢ 0
       deleted q = omega (arith, q, reached-marked z lim r .old-deleted n (λ i. omega (arith, e, i)) (λ i. omega (arith, e, i)) (ltb-true _ _ (holds-at 15 e (omega arith) .old)))
@@ -256,10 +267,10 @@ module _ (z : Sizes) (lim : Limited z) (s : Tables) (r : Reached z s) (n : ℕ) 
   removed m e all ne st = Goes.answers refl refl (Ends.tells (st .0) (st .1) (rw (eqb-true (t .operation) remove (passes m (λ op. eqb op remove) all e ne)) refl))
 
   finds-again-goes : t .stage ≡ 17 → By (Stages.findsAgain z s t)
-  finds-again-goes e = let st = stands 17 e refl refl refl refl in picked By (ltb (find z s (t .chunk) (t .key) .0) (z .entries)) (λ _. away st refl (omega arith) refl refl refl) (λ _. removed 17 e refl (omega arith) st)
+  finds-again-goes e = let st = stands 17 e refl refl in picked By (ltb (find z s (t .chunk) (t .key) .0) (z .entries)) (λ _. away st refl refl refl) (λ _. removed 17 e refl (omega arith) st)
 
   reads-again-goes : t .stage ≡ 18 → By (Stages.readsAgain z s t)
-  reads-again-goes e = let st = stands 18 e refl refl refl refl in picked By (eqb (entry z s (t .chunk) (t .entry) .handle .0) (t .old .0)) (λ _. away st refl (omega arith) refl refl refl) (λ _. removed 18 e refl (omega arith) st)
+  reads-again-goes e = let st = stands 18 e refl refl in picked By (eqb (entry z s (t .chunk) (t .entry) .handle .0) (t .old .0)) (λ _. away st refl refl refl) (λ _. removed 18 e refl (omega arith) st)
 
   -- ---- 22
   scans-goes : t .stage ≡ 22 → By (Stages.scans z s t)
@@ -269,13 +280,13 @@ module _ (z : Sizes) (lim : Limited z) (s : Tables) (r : Reached z s) (n : ℕ) 
       (λ _. picked By (ltb (chunk s (locate z s (t .key)) .next .0) (z .chunks)) (λ _. on-from _ _ refl) (λ _. Goes.answers refl refl (Ends.scanned is-scan))))
     where
       st : Stands false
-      st = stands 22 e refl refl refl refl
+      st = stands 22 e refl refl
 
       is-scan : t .operation ≡ scan
       is-scan = eqb-true (t .operation) scan (passes 22 (λ op. eqb op scan) refl e (omega arith))
 
       on-from : (k : ℕ) (rep : Report) → ending rep ≡ false → By (record { task = Stages.cursorAt t k; write = write.Nothing; report = rep })
-      on-from k rep quiet = Goes.on (record { operation = refl; function = refl; argument = refl; key = λ ne. absurd (ne is-scan); busy = λ q. omega (arith, e, q); quiet = quiet }) refl (st .1) (nowhere (record { task = Stages.cursorAt t k; write = write.Nothing; report = rep }) (rw e refl) (rw e refl))
+      on-from k rep quiet = Goes.on (record { operation = refl; function = refl; argument = refl; key = λ ne. absurd (ne is-scan); busy = λ q. omega (arith, e, q); quiet = quiet }) refl (st .1) (nowhere (record { task = Stages.cursorAt t k; write = write.Nothing; report = rep }) (rw e refl))
 
   -- ---- a number that is no stage
   stays-goes : t .stage ≢ 0 → decides z s t ≡ false → By (Stages.stays z s t)
@@ -296,7 +307,7 @@ module _ (z : Sizes) (lim : Limited z) (s : Tables) (r : Reached z s) (n : ℕ) 
       (λ n5. picked P (eqb m 6) (λ e. takes-entry-goes (eqb-true m 6 e))
       (λ _. picked P (eqb m 7) (λ e. links-goes (eqb-true m 7 e))
       (λ _. picked P (eqb m 8) (λ e. takes-handle-goes (eqb-true m 8 e))
-      (λ _. picked P (eqb m 9) (λ e. away (stands 9 (eqb-true m 9 e) refl refl refl refl) refl (omega arith) refl refl refl)
+      (λ _. picked P (eqb m 9) (λ e. away (stands 9 (eqb-true m 9 e) refl refl) refl refl refl)
       (λ _. picked P (eqb m 10 or eqb m 13 or eqb m 19) (λ e. publishes-goes (⊎-map (eqb-true m 10) (λ o. ⊎-map (eqb-true m 13) (eqb-true m 19) (or-cases _ _ o)) (or-cases _ _ e)))
       (λ _. picked P (eqb m 11) (λ e. swaps-goes (eqb-true m 11 e))
       (λ n11. picked P (eqb m 14 or eqb m 20) (λ e. clears-goes (⊎-map (eqb-true m 14) (eqb-true m 20) (or-cases _ _ e)))
@@ -304,7 +315,7 @@ module _ (z : Sizes) (lim : Limited z) (s : Tables) (r : Reached z s) (n : ℕ) 
       (λ _. picked P (eqb m 15) (λ e. ends-absent-goes (eqb-true m 15 e))
       (λ _. picked P (eqb m 17) (λ e. finds-again-goes (eqb-true m 17 e))
       (λ _. picked P (eqb m 18) (λ e. reads-again-goes (eqb-true m 18 e))
-      (λ _. picked P (eqb m 21) (λ e. removed 21 (eqb-true m 21 e) refl (omega arith) (stands 21 (eqb-true m 21 e) refl refl refl refl))
+      (λ _. picked P (eqb m 21) (λ e. removed 21 (eqb-true m 21 e) refl (omega arith) (stands 21 (eqb-true m 21 e) refl refl))
       (λ _. picked P (eqb m 22) (λ e. scans-goes (eqb-true m 22 e))
       (λ _. stays-goes busy (rw (n11, n5) refl)))))))))))))))))))
     where
