@@ -142,9 +142,9 @@ module _ (z : Sizes) (lim : Limited z) (run : ℕ → Call) (n op k a f j : ℕ)
     is-key = g .started .key
 
     -- what it has seen was seen before, or the key is absent now
-    seen-on : op ≢ scan → (AbsentIn z (tablesAt z run (suc (suc i))) (t .key) → Stepped z run n j (suc (suc i))) → Gone z s t ⊎ AbsentIn z (tablesAt z run (suc (suc i))) (t .key) → WasAbsent z run n k j (suc (suc i))
+    seen-on : op ≢ scan → Stepped z run n j (suc (suc i)) → Gone z s t ⊎ AbsentIn z (tablesAt z run (suc (suc i))) (t .key) → WasAbsent z run n k j (suc (suc i))
     seen-on ne after (inl y) = was-later (suc i) (g .seen ne y)
-    seen-on ne after (inr y) = record { moment = suc (suc i); after = after y; to = le-refl _; absent = absent-at (suc (suc i)) (subst (AbsentIn z (tablesAt z run (suc (suc i)))) (is-key ne) y) }
+    seen-on ne after (inr y) = record { moment = suc (suc i); after = after; to = le-refl _; absent = absent-at (suc (suc i)) (subst (AbsentIn z (tablesAt z run (suc (suc i)))) (is-key ne) y) }
 
     -- ---- a call that leaves the row
     module _ (b : Rests z s (run (suc i)) n) (busy : t .stage ≢ 0) where
@@ -157,7 +157,7 @@ module _ (z : Sizes) (lim : Limited z) (run : ℕ → Call) (n op k a f j : ℕ)
             started = g .started;
             decided = ⊎-map (λ w. (w .0, never-on i (w .1) quiet)) (λ w. (w .0, change-on i (w .1) quiet)) (g .decided);
             stepped = λ l. stepped-later (suc i) (g .stepped l);
-            seen = λ ne y. seen-on ne (λ _. stepped-later (suc i) (g .stepped (looking y))) (back y);
+            seen = λ ne y. seen-on ne (stepped-later (suc i) (g .stepped (looking y))) (back y);
           }
         where
           back : Gone z (tablesAt z run (suc (suc i))) t → Gone z s t ⊎ AbsentIn z (tablesAt z run (suc (suc i))) (t .key)
@@ -190,7 +190,7 @@ module _ (z : Sizes) (lim : Limited z) (run : ℕ → Call) (n op k a f j : ℕ)
       pub undecided : past t ≡ false → NeverDecides z run n j i
       undecided e = ⊎-elim (λ w. w .1) (λ w. absurd (false≢true (sym e ∙ w .0))) (g .decided)
 
-      pub unlike : t .operation ≢ scan → op ≢ scan
+      unlike : t .operation ≢ scan → op ≢ scan
       unlike ne q = ne (g .started .operation ∙ q)
 
       steps-ghost : x .task .stage ≢ 0 → GhostOf (suc i) (x .task)
@@ -202,14 +202,14 @@ module _ (z : Sizes) (lim : Limited z) (run : ℕ → Call) (n op k a f j : ℕ)
                 started = onward w;
                 decided = ⊎-map (λ c. (same ∙ c .0, never-on i (c .1) (decides-not d))) (λ c. (same ∙ c .0, change-on i (c .1) (decides-not d))) (g .decided);
                 stepped = λ _. own;
-                seen = λ ne y. seen-on ne (λ _. own) (follows f y);
+                seen = λ ne y. seen-on ne own (follows f y);
               }
           go (Goes.turns w was is d u f) =
               record {
                 started = onward w;
                 decided = inr (is, change-here i (undecided was) since (g .started) (unlike u) (b .numbered) (record { own = b .call; deciding = d }));
                 stepped = λ _. own;
-                seen = λ ne y. seen-on ne (λ _. own) (follows f y);
+                seen = λ ne y. seen-on ne own (follows f y);
               }
           go (Goes.answers e _ _) = absurd (busy e)
           go (Goes.refuses e _ _ _) = absurd (busy e)
