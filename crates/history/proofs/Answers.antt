@@ -1,0 +1,166 @@
+-- Every finished operation answers as the sequential map does, at its deciding step or at a moment between its first step and its last.
+use Prim.Native.Nat.{ℕ, zero, suc, _<_}
+use mathlib.Core.Path.{_≡_, refl, sym, ap, _∙_, subst}
+use mathlib.Core.Logic.{_⊎_, inl, inr, ⊎-elim, _≢_}
+use mathlib.Core.Bool.{true, false, false≢true}
+use mathlib.Core.List.{List}
+use mathlib.Core.Option.{some}
+use native.Mathlib.Nat.{not-suc-le-zero, le-refl}
+use Rattle.rules.specs.declared.Sizes.{Sizes}
+use Rattle.rules.specs.declared.Task.{Task}
+use Rattle.rules.specs.declared.Decision.{Decision}
+use Rattle.rules.specs.declared.Report.{Report}
+use Rattle.rules.specs.declared.Report.the-variants as report
+use Rattle.rules.specs.Words.{_and_, _or_, scan}
+use Rattle.rules.specs.Tables.{Tables, task, value}
+use Rattle.rules.specs.Stages
+use Rattle.rules.specs.Rebalance.{Outcome}
+use Rattle.rules.specs.Calls.{Call, calls}
+use Rattle.rules.specs.Calls.Call.{step}
+use Rattle.rules.specs.Map.{Pair, lookup}
+use Rattle.map.proofs.Sequential.{on-absent, on-present}
+use Rattle.facts.specs.Facts.{Limited}
+use Rattle.facts.specs.Simulates.{decides, changeAnswer}
+use Rattle.simulation.proofs.Living.{reached-lively}
+use Rattle.simulation.proofs.Simulating.{beside-holds}
+use Rattle.history.specs.Runs.{tablesAt, mapAt, reportAt, taskAt, DecidesAt, Working}
+use Rattle.history.specs.Answers.{isAnswer, NeverDecides, ByChange, ByLooking, Answers}
+use Rattle.history.specs.Turns.{Steps, Turn}
+use Rattle.history.specs.Goes.{past, ending, Ends, Goes}
+use Rattle.history.specs.Ghosts.{Ghost, WasAbsent}
+use Rattle.history.proofs.Runs.{run-beside, run-reached, run-turns, row-next, begun}
+use Rattle.history.proofs.Shown.{holds-old}
+use Rattle.history.proofs.Stepping.{decides-goes}
+use Rattle.history.proofs.Ghosts as ghosts
+use Rattle.history.proofs.Ghosts.{asked, never-on, change-on, change-here, ghost}
+
+-- an answer and refusal 9 are ends, and no answer is a refusal
+answer-ends : (r : Report) → isAnswer r ≡ true → ending r ≡ false → ⊥
+answer-ends r e q = false≢true (sym q ∙ rw e refl)
+
+nine-ends : (r : Report) → r ≡ report.Refused 9 → ending r ≡ false → ⊥
+nine-ends r e q = false≢true (sym q ∙ ap ending e)
+
+nine-no-answer : (r : Report) → r ≡ report.Refused 9 → isAnswer r ≡ true → ⊥
+nine-no-answer r e q = false≢true (ap isAnswer (sym e) ∙ q)
+
+module _ (z : Sizes) (lim : Limited z) (run : ℕ → Call) where
+  -- a call that is a step of a task at work does the step
+  own-step : (n i : ℕ) → taskAt z run i n .stage ≢ 0 → run i ≡ step n → Steps z (tablesAt z run i) (run i) n
+  own-step n i busy e = go (run-turns z run lim i n)
+    where
+      go : Turn z (tablesAt z run i) (run i) n → Steps z (tablesAt z run i) (run i) n
+      go (Turn.begins _ _ _ _ b) = absurd (busy (b .was))
+      go (Turn.steps b) = b
+      go (Turn.rests b) = absurd (busy (b .unstepped e))
+
+  pub ends : (n i : ℕ) → taskAt z run i n .stage ≢ 0 → taskAt z run (suc i) n .stage ≡ 0 → (run i ≡ step n) × ((isAnswer (reportAt z run i) ≡ true) ⊎ (reportAt z run i ≡ report.Refused 9))
+  ends n i busy done = go (run-turns z run lim i n)
+    where
+      s : Tables
+      s = tablesAt z run i
+
+      Ended : Type 0
+      Ended = (run i ≡ step n) × ((isAnswer (reportAt z run i) ≡ true) ⊎ (reportAt z run i ≡ report.Refused 9))
+
+      gone-on : (t : Task) → task (calls z s (run i) .tables) n ≡ t → t .stage ≢ 0 → Ended
+      gone-on t row still = absurd (still (sym (ap (λ (t : Task). t .stage) (row-next z run lim n i ∙ row)) ∙ done))
+
+      by : Steps z s (run i) n → Goes z s n (Stages.decide z s (task s n)) → Ended
+      by b (Goes.on w _ _ _) = gone-on (Stages.decide z s (task s n) .task) (b .row) (w .busy)
+      by b (Goes.turns w _ _ _ _ _) = gone-on (Stages.decide z s (task s n) .task) (b .row) (w .busy)
+      by b (Goes.answers _ e _) = (b .call, inl (ap (λ (o : Outcome). isAnswer (o .report)) (b .done) ∙ e))
+      by b (Goes.refuses _ _ _ e) = (b .call, inr (ap (λ (o : Outcome). o .report) (b .done) ∙ e))
+
+      go : Turn z s (run i) n → Ended
+      go (Turn.begins _ _ _ _ b) = absurd (busy (b .was))
+      go (Turn.steps b) = by b (decides-goes z lim s (run-reached z run lim i) n busy)
+      go (Turn.rests b) = gone-on (task s n) (b .row) busy
+
+  -- ---- an operation's own step, call i + 1
+  module _ (n op k a f j i : ℕ) (w : Working z run n op k a f j (suc i)) (e : run (suc i) ≡ step n) where
+    abbrev s : Tables
+    s = tablesAt z run (suc i)
+
+    abbrev t : Task
+    t = task s n
+
+    abbrev x : Decision
+    x = Stages.decide z s t
+
+    abbrev m : List Pair
+    m = mapAt z run (suc i)
+
+    g : Ghost z run n op k a f j i t
+    g = ghost z lim run n op k a f j i w
+
+    b : Steps z s (run (suc i)) n
+    b = own-step n (suc i) (w .on (suc i) (w .before) (le-refl _)) e
+
+    goes : Goes z s n x
+    goes = ghosts.goes z lim run n op k a f j i (w .before) g b
+
+    reported : reportAt z run (suc i) ≡ x .report
+    reported = ap (λ (o : Outcome). o .report) (b .done)
+
+    abbrev Answered : Report → Type 0
+    Answered r = ByChange z run n op k a f j (suc i) r ⊎ ByLooking z run n op k a f j (suc i) r
+
+    quiet : decides z s t ≡ false → DecidesAt z run n (suc i) → ⊥
+    quiet = ghosts.decides-not z lim run n op k a f j i (w .before) g b
+
+    before : past t ≡ false → NeverDecides z run n j i
+    before = ghosts.undecided z lim run n op k a f j i (w .before) g b
+
+    -- where it has not decided before, and does not now, it never decides
+    never : past t ≡ false → decides z s t ≡ false → NeverDecides z run n j (suc i)
+    never was d = never-on z lim run n op k a f j i (before was) (quiet d)
+
+    changed : x .report ≡ changeAnswer (t .operation) → ByChange z run n op k a f j (suc i) (changeAnswer op) → Answered (x .report)
+    changed r c = inl (subst (ByChange z run n op k a f j (suc i)) (sym (r ∙ ap changeAnswer (g .started .operation))) c)
+
+    by-end : op ≢ scan → Ends z s n x → Answered (x .report)
+    by-end ne (Ends.changes was d u r) = changed r (change-here z lim run n op k a f j i (before was) (w .before) (g .started) ne (b .numbered) (record { own = e; deciding = d }))
+    by-end ne (Ends.tells is d r) = ⊎-elim (λ c. absurd (false≢true (sym (c .0) ∙ is))) (λ c. changed r (change-on z lim run n op k a f j i (c .1) (quiet d))) (g .decided)
+    by-end ne (Ends.present was d l q right) = inr (record { never = never was d; moment = suc i; after = g .stepped (inr l); to = le-refl _; right = sym (asked m op k a f t (g .started) ne) ∙ on-present m (t .operation) (t .key) (t .argument) (t .function) (value s (t .old)) there ∙ right m })
+      where
+        inside : t .old .0 < z .handles
+        inside = holds-old z lim s (run-reached z run lim (suc i)) n l
+
+        there : lookup m (t .key) ≡ some (value s (t .old))
+        there = beside-holds z lim (run-beside z run (suc i)) .0 (t .key) (value s (t .old)) .1 (record { handle = t .old .0; inside = inside; named = reached-lively z lim (run-reached z run lim (suc i)) .old-live n inside q; undeleted = q; valued = refl })
+    by-end ne (Ends.absent was d gone right) = inr (record { never = never was d; moment = y .moment; after = y .after; to = y .to; right = sym (asked (mapAt z run (y .moment)) op k a f t (g .started) ne) ∙ on-absent (mapAt z run (y .moment)) (t .operation) (t .key) (t .argument) (t .function) (ap (lookup (mapAt z run (y .moment))) (g .started .key ne) ∙ y .absent) ∙ right (mapAt z run (y .moment)) })
+      where
+        y : WasAbsent z run n k j (suc i)
+        y = g .seen ne gone
+    by-end ne (Ends.scanned q) = absurd (ne (sym (g .started .operation) ∙ q))
+
+    answered-by : op ≢ scan → isAnswer (x .report) ≡ true → Goes z s n x → Answered (x .report)
+    answered-by ne ans (Goes.on v _ _ _) = absurd (answer-ends (x .report) ans (v .quiet))
+    answered-by ne ans (Goes.turns v _ _ _ _ _) = absurd (answer-ends (x .report) ans (v .quiet))
+    answered-by ne ans (Goes.answers _ _ v) = by-end ne v
+    answered-by ne ans (Goes.refuses _ _ _ r) = absurd (nine-no-answer (x .report) r ans)
+
+    pub step-answered : op ≢ scan → isAnswer (reportAt z run (suc i)) ≡ true → Answered (reportAt z run (suc i))
+    step-answered ne ans = subst Answered (sym reported) (answered-by ne (ap isAnswer (sym reported) ∙ ans) goes)
+
+    refused-by : x .report ≡ report.Refused 9 → Goes z s n x → NeverDecides z run n j (suc i)
+    refused-by r (Goes.on v _ _ _) = absurd (nine-ends (x .report) r (v .quiet))
+    refused-by r (Goes.turns v _ _ _ _ _) = absurd (nine-ends (x .report) r (v .quiet))
+    refused-by r (Goes.answers _ ans _) = absurd (nine-no-answer (x .report) r ans)
+    refused-by r (Goes.refuses _ was d _) = never was d
+
+    pub step-refused : reportAt z run (suc i) ≡ report.Refused 9 → NeverDecides z run n j (suc i)
+    step-refused r = refused-by (sym reported ∙ r) goes
+
+  -- the same of any call: the first is no step of a task at work
+  answered : (n op k a f j i : ℕ) → Working z run n op k a f j i → op ≢ scan → run i ≡ step n → isAnswer (reportAt z run i) ≡ true → ByChange z run n op k a f j i (reportAt z run i) ⊎ ByLooking z run n op k a f j i (reportAt z run i)
+  answered n op k a f j zero w ne e ans = absurd (not-suc-le-zero (w .before))
+  answered n op k a f j (suc i) w ne e ans = step-answered n op k a f j i w e ne ans
+
+  refused : (n op k a f j i : ℕ) → Working z run n op k a f j i → run i ≡ step n → reportAt z run i ≡ report.Refused 9 → NeverDecides z run n j i
+  refused n op k a f j zero w e r = absurd (not-suc-le-zero (w .before))
+  refused n op k a f j (suc i) w e r = step-refused n op k a f j i w e r
+
+pub answers : (z : Sizes) → Limited z → Answers z
+answers z lim = record { begun = λ run n i. begun z run lim n i; ends = ends z lim; answered = answered z lim; refused = refused z lim }

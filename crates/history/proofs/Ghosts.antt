@@ -1,0 +1,235 @@
+-- Every call keeps what is kept of an operation at work.
+use Prim.Native.Nat.{ℕ, zero, suc, _≤_, _<_}
+use mathlib.Core.Path.{_≡_, refl, sym, ap, _∙_, subst}
+use mathlib.Core.Logic.{_⊎_, inl, inr, ⊎-elim, ⊎-map, _≢_}
+use mathlib.Core.Bool.{true, false, false≢true}
+use mathlib.Core.List.{List}
+use mathlib.Core.Option.{Option, none, some}
+use native.Mathlib.Nat.{not-suc-le-zero, le-refl}
+use native.Mathlib.Decide.{ℕ-discrete}
+use native.Mathlib.Omega.{arith}
+use lib.Dec.{eqb}
+use borrow.Author.Tests.{eqb-true, lt-ltb}
+use Rattle.rules.specs.declared.Sizes.{Sizes}
+use Rattle.rules.specs.declared.Task.{Task}
+use Rattle.rules.specs.declared.Decision.{Decision}
+use Rattle.rules.specs.declared.Report.{Report}
+use Rattle.rules.specs.Words.{pick, _or_, get, upsert, compute, remove, scan, usesFunction}
+use Rattle.rules.specs.Tables.{Tables, task}
+use Rattle.rules.specs.Stages
+use Rattle.rules.specs.Rebalance.{Outcome}
+use Rattle.rules.specs.Calls.{Call, started}
+use Rattle.rules.specs.Map.{Pair, Effect, lookup, bySeen, sequential}
+use Rattle.laws.proofs.Tests.{by-test, or-cases, or-left, or-right}
+use Rattle.facts.specs.Facts.{Limited}
+use Rattle.facts.specs.Simulates.{decides, mapThen, changeAnswer}
+use Rattle.simulation.proofs.Simulating.{beside-holds, simulates}
+use Rattle.history.specs.Runs.{tablesAt, mapAt, taskAt, DecidesAt, Working, Stepped}
+use Rattle.history.specs.Answers.{NeverDecides, ByChange}
+use Rattle.history.specs.Turns.{Begins, Steps, Rests, Came}
+use Rattle.history.specs.Goes.{past, looksIn, looksOld, Gone, AbsentIn, Onward, stepped, Follows, Goes}
+use Rattle.history.specs.Ghosts.{Started, WasAbsent, Ghost}
+use Rattle.history.proofs.Runs.{run-beside, run-reached, tables-next, map-next, row-next, came}
+use Rattle.history.proofs.Shown.{gone-back}
+use Rattle.history.proofs.Stepping.{decides-goes}
+
+-- ---- the sequential map, by what a row keeps
+module _ (m : List Pair) (op k a f : ℕ) where
+  abbrev Kept-as : Option ℕ → Type 0
+  Kept-as o = bySeen m op k (pick (eqb op get or eqb op remove) 0 a) (pick (usesFunction op) f 0) o ≡ bySeen m op k a f o
+
+  with-argument : (eqb op get or eqb op remove) ≡ false → (o : Option ℕ) → Kept-as o
+  with-argument e none = rw e refl
+  with-argument e (some v) = rw e (by-test (usesFunction op) (λ u. rw u refl) (λ u. rw (u, or-left (eqb op upsert) (eqb op compute) u, or-right (eqb op upsert) (eqb op compute) u) refl))
+
+  without : (op ≡ get) ⊎ (op ≡ remove) → (o : Option ℕ) → Kept-as o
+  without (inl e) none = rw e refl
+  without (inl e) (some v) = rw e refl
+  without (inr e) none = rw e refl
+  without (inr e) (some v) = rw e refl
+
+  -- an argument and a function that the operation doesn't use are of no account
+  kept-numbers : sequential m op k (pick (eqb op get or eqb op remove) 0 a) (pick (usesFunction op) f 0) ≡ sequential m op k a f
+  unfolding sequential
+  kept-numbers = by-test (eqb op get or eqb op remove) (λ e. without (⊎-map (eqb-true op get) (eqb-true op remove) (or-cases _ _ e)) (lookup m k)) (λ e. with-argument e (lookup m k))
+
+  pub asked : (t : Task) → Started op k a f t → op ≢ scan → sequential m (t .operation) (t .key) (t .argument) (t .function) ≡ sequential m op k a f
+  asked t st ne = rw (st .operation, st .key ne, st .argument, st .function) kept-numbers
+
+is-none : (o : Option ℕ) → ((v : ℕ) → o ≡ some v → ⊥) → o ≡ none
+is-none none f = refl
+is-none (some v) f = absurd (f v refl)
+
+-- a task that shows none looks
+looking : {z : Sizes} {x : Tables} {t : Task} → Gone z x t → (looksIn (t .stage) ≡ true) ⊎ (looksOld (t .stage) ≡ true)
+looking (Gone.chunk q _) = inl q
+looking (Gone.old q _) = inr q
+
+module _ (z : Sizes) (lim : Limited z) (run : ℕ → Call) (n op k a f j : ℕ) where
+  -- ---- moments
+  pub absent-at : (i : ℕ) → AbsentIn z (tablesAt z run i) k → lookup (mapAt z run i) k ≡ none
+  absent-at i gone = is-none (lookup (mapAt z run i) k) (λ v e. gone v (beside-holds z lim (run-beside z run i) .0 k v .0 e))
+
+  was-later : (i : ℕ) → WasAbsent z run n k j i → WasAbsent z run n k j (suc i)
+  was-later i w = record { moment = w .moment; after = w .after; to = omega (arith, w .to); absent = w .absent }
+
+  stepped-later : (i : ℕ) → Stepped z run n j i → Stepped z run n j (suc i)
+  stepped-later i w = record { at = w .at; since = w .since; before = omega (arith, w .before); own = w .own }
+
+  -- ---- deciding steps, with one more call
+  module _ (i : ℕ) where
+    -- one of the first calls, or the one more
+    last : (x : ℕ) → x ≤ suc i → (x ≡ suc i) ⊎ (x ≤ i)
+    last x le = elim (ℕ-discrete x (suc i)) [ yes e ↦ inl e | no ne ↦ inr (omega (arith, le, ne)) ]
+
+    pub never-on : NeverDecides z run n j i → (DecidesAt z run n (suc i) → ⊥) → NeverDecides z run n j (suc i)
+    never-on never quiet x since le d = ⊎-elim (λ e. quiet (rw e at d)) (λ before. never x since before d) (last x le)
+
+    pub change-on : {r : Report} → ByChange z run n op k a f j i r → (DecidesAt z run n (suc i) → ⊥) → ByChange z run n op k a f j (suc i) r
+    change-on c quiet = record { at = c .at; since = c .since; to = omega (arith, c .to); decides = c .decides; alone = λ x since le d. ⊎-elim (λ e. absurd (quiet (rw e at d))) (λ before. c .alone x since before d) (last x le); changes = c .changes; answers = c .answers }
+
+    pub change-here : NeverDecides z run n j i → j < suc i → Started op k a f (taskAt z run (suc i) n) → op ≢ scan → n < z .tasks → DecidesAt z run n (suc i) → ByChange z run n op k a f j (suc i) (changeAnswer op)
+    change-here never since st ne b d =
+        record {
+          at = suc i;
+          since = since;
+          to = le-refl _;
+          decides = d;
+          alone = λ x after le e. ⊎-elim (λ q. q) (λ before. absurd (never x after before e)) (last x le);
+          changes = map-next z run (suc i) ∙ ap (λ (c : Call). mapThen z (tablesAt z run (suc i)) c m) (d .own) ∙ rw (lt-ltb n (z .tasks) b, d .deciding) (ap (λ (y : Effect). y .map) same);
+          answers = ap (λ (y : Effect). y .answer) (sym same) ∙ simulates z lim .changes (tablesAt z run (suc i)) m (run-beside z run (suc i)) n (d .deciding) ∙ ap changeAnswer (st .operation);
+        }
+      where
+        m : List Pair
+        m = mapAt z run (suc i)
+
+        t : Task
+        t = taskAt z run (suc i) n
+
+        same : sequential m (t .operation) (t .key) (t .argument) (t .function) ≡ sequential m op k a f
+        same = asked m op k a f t st ne
+
+  -- ---- what is kept, over each call
+  abbrev GhostOf : ℕ → Task → Type 0
+  GhostOf i t = Ghost z run n op k a f j i t
+
+  begins-ghost : (i : ℕ) → j ≡ i → (s : Tables) → GhostOf i (started z s op k a f)
+  begins-ghost i e s =
+      record {
+        started = record { operation = refl; function = refl; argument = refl; key = λ _. refl };
+        decided = inl (first .0, λ x since le _. none x since le);
+        stepped = λ l. absurd (blind l);
+        seen = λ _ y. absurd (blind (looking y));
+      }
+    where
+      none : (x : ℕ) → j < x → x ≤ i → ⊥
+      none x since le = omega (arith, e)
+
+      first : (past (started z s op k a f) ≡ false) × (looksIn (started z s op k a f .stage) ≡ false) × (looksOld (started z s op k a f .stage) ≡ false)
+      first = by-test (eqb op scan) (λ q. rw q (refl, refl, refl)) (λ q. rw q (refl, refl, refl))
+
+      blind : (looksIn (started z s op k a f .stage) ≡ true) ⊎ (looksOld (started z s op k a f .stage) ≡ true) → ⊥
+      blind = ⊎-elim (λ q. false≢true (sym (first .1) ∙ q)) (λ q. false≢true (sym (first .2) ∙ q))
+
+  module _ (i : ℕ) (since : j < suc i) (g : GhostOf i (taskAt z run (suc i) n)) where
+    abbrev s : Tables
+    s = tablesAt z run (suc i)
+
+    abbrev t : Task
+    t = taskAt z run (suc i) n
+
+    is-key : op ≢ scan → t .key ≡ k
+    is-key = g .started .key
+
+    -- what it has seen was seen before, or the key is absent now
+    seen-on : op ≢ scan → Stepped z run n j (suc (suc i)) → Gone z s t ⊎ AbsentIn z (tablesAt z run (suc (suc i))) (t .key) → WasAbsent z run n k j (suc (suc i))
+    seen-on ne after (inl y) = was-later (suc i) (g .seen ne y)
+    seen-on ne after (inr y) = record { moment = suc (suc i); after = after; to = le-refl _; absent = absent-at (suc (suc i)) (subst (AbsentIn z (tablesAt z run (suc (suc i)))) (is-key ne) y) }
+
+    -- ---- a call that leaves the row
+    module _ (b : Rests z s (run (suc i)) n) (busy : t .stage ≢ 0) where
+      quiet : DecidesAt z run n (suc i) → ⊥
+      quiet d = busy (b .unstepped (d .own))
+
+      rests-ghost : GhostOf (suc i) t
+      rests-ghost =
+          record {
+            started = g .started;
+            decided = ⊎-map (λ w. (w .0, never-on i (w .1) quiet)) (λ w. (w .0, change-on i (w .1) quiet)) (g .decided);
+            stepped = λ l. stepped-later (suc i) (g .stepped l);
+            seen = λ ne y. seen-on ne (stepped-later (suc i) (g .stepped (looking y))) (back y);
+          }
+        where
+          back : Gone z (tablesAt z run (suc (suc i))) t → Gone z s t ⊎ AbsentIn z (tablesAt z run (suc (suc i))) (t .key)
+          back = subst (λ (x : Tables). Gone z x t → Gone z s t ⊎ AbsentIn z x (t .key)) (sym (tables-next z run (suc i))) (gone-back z lim s (run-reached z run lim (suc i)) (run (suc i)) n (b .row))
+
+    -- ---- a step of the task
+    module _ (b : Steps z s (run (suc i)) n) where
+      abbrev x : Decision
+      x = Stages.decide z s t
+
+      pub goes : Goes z s n x
+      goes = decides-goes z lim s (run-reached z run lim (suc i)) n (b .busy)
+
+      own : Stepped z run n j (suc (suc i))
+      own = record { at = suc i; since = since; before = omega arith; own = b .call }
+
+      pub decides-not : decides z s t ≡ false → DecidesAt z run n (suc i) → ⊥
+      decides-not e d = false≢true (sym e ∙ d .deciding)
+
+      then-tables : tablesAt z run (suc (suc i)) ≡ stepped z s n x
+      then-tables = tables-next z run (suc i) ∙ ap (λ (o : Outcome). o .tables) (b .done)
+
+      follows : Follows z s n x → Gone z (tablesAt z run (suc (suc i))) (x .task) → Gone z s t ⊎ AbsentIn z (tablesAt z run (suc (suc i))) (t .key)
+      follows = subst (λ (y : Tables). (Gone z (stepped z s n x) (x .task) → Gone z s t ⊎ AbsentIn z (stepped z s n x) (t .key)) → Gone z y (x .task) → Gone z s t ⊎ AbsentIn z y (t .key)) (sym then-tables) (λ f. f)
+
+      -- what it was started with stays
+      onward : Onward t x → Started op k a f (x .task)
+      onward w = record { operation = w .operation ∙ g .started .operation; function = w .function ∙ g .started .function; argument = w .argument ∙ g .started .argument; key = λ ne. w .key (λ q. ne (sym (g .started .operation) ∙ q)) ∙ is-key ne }
+
+      pub undecided : past t ≡ false → NeverDecides z run n j i
+      undecided e = ⊎-elim (λ w. w .1) (λ w. absurd (false≢true (sym e ∙ w .0))) (g .decided)
+
+      unlike : t .operation ≢ scan → op ≢ scan
+      unlike ne q = ne (g .started .operation ∙ q)
+
+      steps-ghost : x .task .stage ≢ 0 → GhostOf (suc i) (x .task)
+      steps-ghost busy = go goes
+        where
+          go : Goes z s n x → GhostOf (suc i) (x .task)
+          go (Goes.on w same d f) =
+              record {
+                started = onward w;
+                decided = ⊎-map (λ c. (same ∙ c .0, never-on i (c .1) (decides-not d))) (λ c. (same ∙ c .0, change-on i (c .1) (decides-not d))) (g .decided);
+                stepped = λ _. own;
+                seen = λ ne y. seen-on ne own (follows f y);
+              }
+          go (Goes.turns w was is d u f) =
+              record {
+                started = onward w;
+                decided = inr (is, change-here i (undecided was) since (g .started) (unlike u) (b .numbered) (record { own = b .call; deciding = d }));
+                stepped = λ _. own;
+                seen = λ ne y. seen-on ne own (follows f y);
+              }
+          go (Goes.answers e _ _) = absurd (busy e)
+          go (Goes.refuses e _ _ _) = absurd (busy e)
+
+  fresh-ghost : (i : ℕ) → j ≡ i → Begins z (tablesAt z run i) (run i) n op k a f → GhostOf i (taskAt z run (suc i) n)
+  fresh-ghost i e b = subst (GhostOf i) (sym (row-next z run lim n i ∙ b .row)) (begins-ghost i e (tablesAt z run i))
+
+  pub ghost : (i : ℕ) → Working z run n op k a f j (suc i) → GhostOf i (taskAt z run (suc i) n)
+  ghost zero w = go (came z run lim n w)
+    where
+      go : Came z run n op k a f j zero → GhostOf zero (taskAt z run (suc zero) n)
+      go (Came.begins e b) = fresh-ghost zero e b
+      go (Came.steps v b) = absurd (not-suc-le-zero (v .before))
+      go (Came.rests v b) = absurd (not-suc-le-zero (v .before))
+  ghost (suc i) w = go (came z run lim n w) (ghost i)
+    where
+      at-work : taskAt z run (suc (suc i)) n .stage ≢ 0
+      at-work = w .on (suc (suc i)) (w .before) (le-refl _)
+
+      go : Came z run n op k a f j (suc i) → (Working z run n op k a f j (suc i) → GhostOf i (taskAt z run (suc i) n)) → GhostOf (suc i) (taskAt z run (suc (suc i)) n)
+      go (Came.begins e b) before = fresh-ghost (suc i) e b
+      go (Came.steps v b) before = let row = row-next z run lim n (suc i) ∙ b .row in subst (GhostOf (suc i)) (sym row) (steps-ghost i (v .before) (before v) b (λ q. at-work (ap (λ (t : Task). t .stage) row ∙ q)))
+      go (Came.rests v b) before = subst (GhostOf (suc i)) (sym (row-next z run lim n (suc i) ∙ b .row)) (rests-ghost i (v .before) (before v) b (v .on (suc i) (v .before) (le-refl _)))

@@ -1,0 +1,252 @@
+-- What the held chunk and the held handle show of a key, and what a call leaves of it.
+use Prim.Native.Nat.{ℕ, _+_, _/_, _<_}
+use mathlib.Core.Path.{_≡_, refl, sym, ap, _∙_, subst}
+use mathlib.Core.Logic.{_⊎_, inl, inr, ⊎-elim, ⊎-map, _≢_}
+use mathlib.Core.Bool.{true}
+use mathlib.Core.List.{List, List·Memᴰ}
+use mathlib.Core.Option.{Option, none, some, Option·none-ne-some}
+use native.Mathlib.Decide.{ℕ-discrete}
+use native.Mathlib.Omega.{arith}
+use lib.Dec.{eqb, ltb, leb}
+use lib.ListN.{length, getD, set, take, drop}
+use borrow.Author.Tests.{ne-eqb, eqb-true, ltb-true}
+use Rattle.rules.specs.declared.Sizes.{Sizes}
+use Rattle.rules.specs.declared.Directory.{Directory}
+use Rattle.rules.specs.declared.Task.{Task}
+use Rattle.rules.specs.declared.Entry.{Entry}
+use Rattle.rules.specs.declared.ChunkNo.{ChunkNo}
+use Rattle.rules.specs.declared.EntryNo.{EntryNo}
+use Rattle.rules.specs.Words.{pick, noChunk, _and_, _or_, live, retired, usesFunction, scan, idle, toDrain, toCopy, toSwap, toRelease}
+use Rattle.rules.specs.Tables.{Tables, emptyChunk, withTasks, withDirectory, withEntries, chunkAt, chunk, putChunk, entryAt, entry, mark, task}
+use Rattle.rules.specs.Walks.{linked, presentAt}
+use Rattle.rules.specs.Stages
+use Rattle.rules.specs.Rebalance.{Outcome, unusedCount, unusedFrom, publishedOn, heldChunk, namingFrom, at, clears, copies, releases, rebalanceDoes}
+use Rattle.rules.specs.Calls.{Call, starts, steps, does, calls}
+use Rattle.rules.specs.Calls.Call.{start, step, begin, rebalance}
+use Rattle.laws.proofs.Tests.{picked, or-cases}
+use Rattle.views.specs.Views.{InRange}
+use Rattle.views.specs.Copies.{filled}
+use Rattle.views.proofs.Copies.{fill-is, clears-is}
+use Rattle.views.proofs.Entries.{links-one}
+use Rattle.facts.specs.Facts.{Limited, Roles, Holds, holdAt, ChunkOfKey, Kept}
+use Rattle.facts.specs.Reached.{Reached}
+use Rattle.facts.specs.RangesCover.{Live}
+use Rattle.facts.proofs.Numbers.{holding}
+use Rattle.facts.proofs.Covering.{only}
+use Rattle.facts.proofs.SwapIn.{swap-by}
+use Rattle.facts.proofs.Making.{newRow}
+use Rattle.facts.proofs.Reaching.{calls-does, reached-kept}
+use Rattle.handles.proofs.Keys.{reached-owned}
+use Rattle.holds.proofs.Holding.{reached-held}
+use Rattle.holds.proofs.Marks.{reached-marked}
+use Rattle.holds.proofs.Unlinked.{reached-unlinked}
+use Rattle.simulation.specs.Named.{NamedIn, LiveNamed}
+use Rattle.simulation.proofs.Rows.{RowKept, frame}
+use Rattle.simulation.proofs.Keeping.{reached-copied, kept-to}
+use Rattle.simulation.proofs.Moving.{begin-moves, rebalance-moves}
+use Rattle.simulation.proofs.Living.{under, s′, allowed, acts, same-status, live-on, reached-lively}
+use Rattle.simulation.proofs.Showing.{named-one, looked-up, shown-at}
+use Rattle.history.specs.Goes.{looksIn, looksOld, ShownBy, Gone, AbsentIn}
+
+-- ---- at one moment
+module _ (z : Sizes) (lim : Limited z) (s : Tables) (r : Reached z s) where
+  kept : Kept z s
+  kept = reached-kept z lim r
+
+  -- a live chunk whose range has a key shows it where it is present
+  pub live-absent : (c : ChunkNo) (k : ℕ) → Live z s c → InRange z (s .chunks) c k → (ShownBy z s c k → ⊥) → AbsentIn z s k
+  live-absent c k l range gone v p = gone (record { handle = p .handle; inside = p .inside; named = rw here at (p .named .named); undeleted = p .undeleted })
+    where
+      alive : Live z s (p .named .chunk)
+      alive = record { numbered = p .named .numbered; isLive = p .named .isLive }
+
+      e : EntryNo
+      e = p .named .named .entry
+
+      within : InRange z (s .chunks) (p .named .chunk) k
+      within = rw (p .named .named .keyed) at (kept .tables .key-in-range (p .named .chunk) (p .named .numbered) (p .named .isLive) e (reached-unlinked z lim r (p .named .chunk) e (p .named .numbered) (p .named .named .inside) (rw (p .named .named .names) (p .inside))))
+
+      here : p .named .chunk ≡ c
+      here = only z lim s kept k (p .named .chunk) alive within ∙ sym (only z lim s kept k c l range)
+
+  -- a handle that a live chunk names and that is deleted makes its key absent
+  pub marked-absent : (h k : ℕ) → h < z .handles → LiveNamed z (s .chunks) (s .entries) h k → getD (s .marks) h 0 ≢ 0 → AbsentIn z s k
+  marked-absent h k i v deleted w p = deleted (ap (λ (h : ℕ). getD (s .marks) h 0) (named-one z lim s kept (reached-unlinked z lim r) i (p .inside) v (p .named)) ∙ p .undeleted)
+
+  -- the linked entry of a chunk that has the key names what the chunk names under it
+  pub entry-named : (c : ChunkNo) (e : EntryNo) (h k : ℕ) → c .0 < z .chunks → List·Memᴰ e (linked z s c) → entry z s c e .key ≡ k → h < z .handles → NamedIn z (s .entries) c h k → entry z s c e .handle .0 ≡ h
+  entry-named c e h k b m q i v = ap (λ (e : EntryNo). entry z s c e .handle .0) same ∙ v .names
+    where
+      same : e ≡ v .entry
+      same = links-one z (s .entries) c (chunk s c .used) 0 (chunk s c .head) e (v .entry) (linked z s c) (kept .tables .lists c b .links) m (reached-unlinked z lim r c (v .entry) b (v .inside) (rw (v .names) i)) (q ∙ sym (v .keyed))
+
+  -- what a task that looks holds
+  module _ (n : ℕ) where
+    holds-at : (m : ℕ) → task s n .stage ≡ m → m ≢ 0 → Holds z (task s n) (holdAt m)
+    holds-at = holding z (s .chunks) (s .entries) (task s n) (kept .tasks n)
+
+    stands : (m : ℕ) → eqb (task s n .stage) m ≡ true → m ≢ 0 → Holds z (task s n) (holdAt m)
+    stands m e = holds-at m (eqb-true (task s n .stage) m e)
+
+    pub holds-chunk : looksIn (task s n .stage) ≡ true → task s n .chunk .0 < z .chunks
+    holds-chunk q = ltb-true _ _ (⊎-elim (λ e. stands 2 e (omega arith) .chunk) (λ e. stands 3 e (omega arith) .chunk) (or-cases _ _ q))
+
+    pub holds-old : looksOld (task s n .stage) ≡ true → task s n .old .0 < z .handles
+    holds-old q =
+        ltb-true _ _ (
+        ⊎-elim (λ i. ⊎-elim (λ e. stands 4 e (omega arith) .old) (λ e. stands 5 e (omega arith) .old) (or-cases _ _ i))
+        (λ i. ⊎-elim (λ e. stands 13 e (omega arith) .old) (λ j. ⊎-elim (λ e. stands 14 e (omega arith) .old) (λ e. stands 15 e (omega arith) .old) (or-cases _ _ j)) (or-cases _ _ i)) (or-cases _ _ q)
+        )
+
+-- only while a release is to come is a chunk retired
+none-retired : (z : Sizes) (s : Tables) → Kept z s → s .directory .stage ≢ toRelease → (c : ChunkNo) → c .0 < z .chunks → chunk s c .status ≢ retired
+none-retired z s kept early c b = elim (ℕ-discrete (s .directory .old .0) (c .0)) [ yes e ↦ is-old (w .old e .1) | no n1 ↦ elim (ℕ-discrete (s .directory .new .0) (c .0)) [ yes e ↦ is-new (w .new n1 (inl e) .1) | no n2 ↦ elim (ℕ-discrete (s .directory .second .0) (c .0)) [ yes e ↦ is-new (w .new n1 (inr e) .1) | no n3 ↦ ⊎-elim (λ e q. omega (arith, e, q)) (λ e q. omega (arith, e, q)) (w .other n1 n2 n3 .1) ] ] ]
+  where
+    w : Roles (s .directory) (c .0) (chunk s c)
+    w = kept .tables .rebalancing .roles c b
+
+    is-old : chunk s c .status ≡ pick (eqb (s .directory .stage) toRelease) retired live → chunk s c .status ≢ retired
+    is-old e q = omega (arith, q, rw (ne-eqb _ _ early) at e)
+
+    is-new : chunk s c .status ≡ pick (eqb (s .directory .stage) toRelease) live 2 → chunk s c .status ≢ retired
+    is-new e q = omega (arith, q, rw (ne-eqb _ _ early) at e)
+
+-- ---- over a call
+module _ (z : Sizes) (lim : Limited z) (s : Tables) (r : Reached z s) where
+  abbrev k₀ : Kept z s
+  k₀ = reached-kept z lim r
+
+  -- what holds of the tables, whatever row of a task is put there, holds after a start
+  start-by : (P : Tables → Type 0) → P s → ((ts : List Task) → P (withTasks s ts)) → (n op k a f : ℕ) → P (starts z s n op k a f .tables)
+  start-by P same put n op k a f =
+      picked O (leb (z .tasks) n) (λ _. same)
+      (λ _. picked O (eqb (task s n .stage) 0)
+      (λ _. picked O (ltb op 1 or ltb 7 op or (usesFunction op and (ltb f 1 or ltb 3 f))) (λ _. same) (λ _. picked O (eqb op scan and ltb a k) (λ _. same) (λ _. put _)))
+      (λ _. same))
+    where
+      O : Outcome → Type 0
+      O o = P (o .tables)
+
+  -- what holds of the tables, and where the task's stage is done, holds after a step
+  step-by : (P : Tables → Type 0) → P s → (n : ℕ) → P (s′ z lim s k₀ n) → P (steps z s n .tables)
+  step-by P same n then-done = picked (λ (o : Outcome). P (o .tables)) (leb (z .tasks) n) (λ _. same) (λ _. picked (λ (o : Outcome). P (o .tables)) (eqb (task s n .stage) 0) (λ _. same) (λ _. then-done))
+
+  -- an undeleted handle that a live chunk names stays named so
+  module _ (h k : ℕ) (i : h < z .handles) (m : getD (s .marks) h 0 ≡ 0) (v : LiveNamed z (s .chunks) (s .entries) h k) where
+    abbrev LiveIn : Tables → Type 0
+    LiveIn x = LiveNamed z (x .chunks) (x .entries) h k
+
+    does-live : (c : Call) → LiveIn (does z s c .tables)
+    unfolding does
+    does-live (start n op k a f) = start-by LiveIn v (λ _. v) n op k a f
+    does-live (step n) = step-by LiveIn v n (live-on z lim s k₀ n (reached-marked z lim r) h k i m v)
+    does-live (begin j) = begin-moves z lim s k₀ (reached-owned z lim r) (reached-held z lim r) (reached-unlinked z lim r) (reached-copied z lim r) j .0 .to h k i v
+    does-live rebalance = rebalance-moves z lim s k₀ (reached-owned z lim r) (reached-held z lim r) (reached-unlinked z lim r) (reached-copied z lim r) .0 .to h k i v
+
+    call-live : (c : Call) → LiveIn (calls z s c .tables)
+    call-live c = subst (λ (o : Outcome). LiveIn (o .tables)) (sym (calls-does z lim s k₀ c)) (does-live c)
+
+  -- a retired chunk names what it named
+  module _ (f : ChunkNo) (b : f .0 < z .chunks) (h k : ℕ) (i : h < z .handles) (v : NamedIn z (s .entries) f h k) where
+    abbrev Stays : Tables → Type 0
+    Stays x = Kept z x → chunkAt (x .chunks) f .status ≡ retired → NamedIn z (x .entries) f h k
+
+    abbrev StaysBy : Outcome → Type 0
+    StaysBy o = Stays (o .tables)
+
+    step-stays : (n : ℕ) → Stays (steps z s n .tables)
+    step-stays n = step-by Stays (λ _ _. v) n (λ _ q. kept-to z (s .entries) (s′ z lim s k₀ n .entries) f (rows q) i v)
+      where
+        not-there : chunkAt (s′ z lim s k₀ n .chunks) f .status ≡ retired → task s n .published ≡ 1 → f ≢ task s n .chunk
+        not-there q p e = omega (arith, sym (same-status z lim s k₀ n f) ∙ q, ap (λ (c : ChunkNo). chunk s c .status) e ∙ reached-held z lim r .publisher-live n p .isLive)
+
+        rows : chunkAt (s′ z lim s k₀ n .chunks) f .status ≡ retired → (e : EntryNo) → e .0 < z .entries → RowKept z (entryAt z (s .entries) f e) (entryAt z (s′ z lim s k₀ n .entries) f e)
+        rows q e j = frame z lim s k₀ (set (s .tasks) n (Stages.decide z s (task s n) .task)) n (acts z lim s k₀ n) (allowed z lim s k₀ n) f e (record { chunk = b; entry = j }) (not-there q)
+
+    -- no copy and no release leaves one
+    early : (x : Tables) (m : ℕ) → x .directory .stage ≡ m → m ≢ toRelease → {A : Type 0} → Kept z x → chunkAt (x .chunks) f .status ≡ retired → A
+    early x m e ne kept q = absurd (none-retired z x kept (λ p. ne (sym e ∙ p)) f b q)
+
+    copy-stage : copies z s .tables .directory .stage ≡ toSwap
+    copy-stage = picked (λ (o : Outcome). o .tables .directory .stage ≡ toSwap) (leb (length l) (z .entries / 2)) (λ _. rw (fill-is z a (withDirectory s (at z s toSwap a noChunk)) 0 l) refl) (λ _. rw (fill-is z a (withDirectory s (at z s toSwap a b₂)) 0 (take half l), fill-is z b₂ (putChunk (withEntries (withDirectory s (at z s toSwap a b₂)) (filled z a 0 (take half l) (s .entries))) a (newRow (chunk s old .min) (take half l))) 0 (drop half l)) refl)
+      where
+        old : ChunkNo
+        old = s .directory .old
+
+        l : List Entry
+        l = namingFrom z (s .entries) old (z .entries) (chunk s old .head)
+
+        half : ℕ
+        half = (length l + 1) / 2
+
+        a : ChunkNo
+        a = unusedFrom (s .chunks) 0
+
+        b₂ : ChunkNo
+        b₂ = unusedFrom (drop (a .0 + 1) (s .chunks)) (a .0 + 1)
+
+    release-stays : Stays (releases z s .tables)
+    release-stays = picked StaysBy (heldChunk (s .tasks) (s .directory .old)) (λ _ _ _. v) (λ _. early x idle (rw (clears-is z (s .directory .old) s (z .entries) (withDirectory s to)) refl) (omega arith))
+      where
+        to : Directory
+        to = record { first = s .directory .first; stage = idle; old = noChunk; new = noChunk; second = noChunk }
+
+        x : Tables
+        x = putChunk (clears z s (z .entries) (withDirectory s to) (s .directory .old)) (s .directory .old) emptyChunk
+
+    does-stays : (c : Call) → Stays (does z s c .tables)
+    unfolding does rebalanceDoes
+    does-stays (start n op k a g) = start-by Stays (λ _ _. v) (λ _ _ _. v) n op k a g
+    does-stays (step n) = step-stays n
+    does-stays (begin j) = picked StaysBy (eqb (s .directory .stage) idle) (λ _. picked StaysBy (ltb (unusedCount (s .chunks)) 2) (λ _ _ _. v) (λ _ _ _. v)) (λ _ _ _. v)
+    does-stays rebalance =
+        picked Q (eqb (s .directory .stage) toDrain) (λ _. picked StaysBy (publishedOn (s .tasks) (s .directory .old)) (λ _ _ _. v) (λ _ _ _. v))
+        (λ _. picked Q (eqb (s .directory .stage) toCopy) (λ _. early (copies z s .tables) toSwap copy-stage (omega arith))
+        (λ _. picked Q (eqb (s .directory .stage) toSwap) (λ _ _ _. swap-by z s (λ x. NamedIn z (x .entries) f h k) v (λ x e. e) (λ x e. e) (λ x e. e) (λ x e. e) (λ x d e. e))
+        (λ _. picked Q (eqb (s .directory .stage) toRelease) (λ _. release-stays) (λ _ _ _. v))))
+      where
+        Q : (Sizes → Tables → Outcome) → Type 0
+        Q g = StaysBy (g z s)
+
+    call-stays : (c : Call) → Stays (calls z s c .tables)
+    call-stays c = subst StaysBy (sym (calls-does z lim s k₀ c)) (does-stays c)
+
+  -- ---- a call that leaves the task's row: where it then shows none it did so before, or the key is absent now
+  module _ (c : Call) (n : ℕ) where
+    abbrev s₁ : Tables
+    s₁ = calls z s c .tables
+
+    r₁ : Reached z s₁
+    r₁ = Reached.called r c
+
+    k₁ : Kept z s₁
+    k₁ = reached-kept z lim r₁
+
+    abbrev t : Task
+    t = task s n
+
+    -- a live chunk's name of an undeleted handle stays, so where it is deleted now the key is absent
+    deleted : (h k : ℕ) → h < z .handles → getD (s .marks) h 0 ≡ 0 → LiveNamed z (s .chunks) (s .entries) h k → getD (s₁ .marks) h 0 ≢ 0 → AbsentIn z s₁ k
+    deleted h k i m v = marked-absent z lim s₁ r₁ h k i (call-live h k i m v c)
+
+    old-back : t .old .0 < z .handles → mark s₁ (t .old) ≢ 0 → (mark s (t .old) ≢ 0) ⊎ AbsentIn z s₁ (t .key)
+    old-back i d = elim (ℕ-discrete (mark s (t .old)) 0) [ yes e ↦ inr (deleted (t .old .0) (t .key) i e (reached-lively z lim r .old-live n i e) d) | no ne ↦ inl ne ]
+
+    -- what a retired chunk showed it shows, unless the key is absent now
+    shown-on : (f : ChunkNo) (k : ℕ) → f .0 < z .chunks → chunk s₁ f .status ≡ retired → ShownBy z s f k → ShownBy z s₁ f k ⊎ AbsentIn z s₁ k
+    shown-on f k b q v =
+        elim (ℕ-discrete (getD (s₁ .marks) (v .handle) 0) 0) [
+          | yes e ↦ inl (record { handle = v .handle; inside = v .inside; named = call-stays f b (v .handle) k (v .inside) (v .named) c k₁ q; undeleted = e })
+          | no ne ↦ inr (deleted (v .handle) k (v .inside) (v .undeleted) (reached-lively z lim r .undeleted-live (v .handle) k (v .inside) (v .undeleted) (under z (s .entries) f b (v .named))) ne)
+        ]
+
+    pub gone-back : task s₁ n ≡ t → Gone z s₁ t → Gone z s t ⊎ AbsentIn z s₁ (t .key)
+    gone-back same (Gone.old q d) = ⊎-map (λ ne. Gone.old q ne) (λ a. a) (old-back (holds-old z lim s r n q) d)
+    gone-back same (Gone.chunk q gone) = ⊎-elim (λ w. by-present w (presentAt z s₁ (t .key)) refl) (λ w. inr (live-absent z lim s₁ r₁ (t .chunk) (t .key) (record { numbered = b; isLive = w .0 }) (w .1) gone)) (subst (λ (y : Task). y .chunk .0 < z .chunks → ChunkOfKey z (s₁ .chunks) (y .chunk) (y .key)) same (k₁ .tasks n .chunk-of-key) b)
+      where
+        b : t .chunk .0 < z .chunks
+        b = holds-chunk z lim s r n q
+
+        by-present : chunk s₁ (t .chunk) .status ≡ retired → (o : Option ℕ) → presentAt z s₁ (t .key) ≡ o → Gone z s t ⊎ AbsentIn z s₁ (t .key)
+        by-present w none e = inr (λ v p. Option·none-ne-some v (sym e ∙ shown-at z lim s₁ k₁ (reached-unlinked z lim r₁) (t .key) v p))
+        by-present w (some v) e = inl (Gone.chunk q (λ shown. ⊎-elim gone (λ a. a v (looked-up z lim s₁ k₁ (reached-unlinked z lim r₁) (t .key) v e)) (shown-on (t .chunk) (t .key) b w shown)))
