@@ -34,6 +34,7 @@ module _ (z : Sizes) (es : List Entry) (ms : List ℕ) (c : ChunkNo) (from to us
       no : NONE < z .entries → ⊥
       no b = omega (arith, sized)
 
+  -- the walk answers such a one
   pub first-hit : (fuel k : ℕ) (e : EntryNo) (l : List EntryNo) → Links z es c used k e l → presentFrom z es ms c from to fuel e .0 < z .entries → FirstOf l (presentFrom z es ms c from to fuel e)
   unfolding Links presentFrom
   first-hit zero k e l h = λ b. never b
@@ -50,6 +51,7 @@ module _ (z : Sizes) (es : List Entry) (ms : List ℕ) (c : ChunkNo) (from to us
       on : {r : EntryNo} → shows z es ms c from to x ≡ false → FirstOf l r → FirstOf (x ∷ l) r
       on {r = r} q f = record { linked = List·Memᴰ·tail (f .linked); showing = f .showing; least = λ y m s. ⊎-elim (λ (p : y ≡ x). absurd (false≢true (sym q ∙ ap (shows z es ms c from to) (sym p) ∙ s))) (λ n. f .least y n s) (List·Memᴰ·cases-cons m) }
 
+  -- or none of the list shows
   pub first-miss : (fuel k : ℕ) (e : EntryNo) (l : List EntryNo) → length l ≤ fuel → Links z es c used k e l → z .entries ≤ presentFrom z es ms c from to fuel e .0 → Every (λ x. shows z es ms c from to x ≡ false) l
   unfolding Links presentFrom
   first-miss fuel k e [] b h = λ o x m. absurd (List·Memᴰ·not-nil m)
