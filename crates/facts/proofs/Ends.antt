@@ -96,13 +96,13 @@ module _ (z : Sizes) (lim : Limited z) (s : Tables) (h : Tabled z (s .directory)
   -- ---- 12, 15 unpublish
   ends-insertion-fine : t .stage ≡ 12 → Fine z s (Stages.endsInsertion z s t)
   ends-insertion-fine e =
-      picked (Fine z s) (eqb (t .swapped) 0)
+      picked (Fine z s) (Stages.swapFailed z s t)
       (λ _. Going.restarted z lim s h t r _ (rw e (omega arith)) (Going.fit z lim s h t r 12 1 (λ op. true) refl e (omega arith) refl))
       (λ _. Going.finished z lim s h t r _ _ tt)
 
   ends-absent-fine : t .stage ≡ 15 → Fine z s (Stages.endsAbsent z s t)
   ends-absent-fine e =
-      picked (Fine z s) (eqb (t .swapped) 0)
+      picked (Fine z s) (Stages.swapFailed z s t)
       (λ _. Going.restarted z lim s h t r _ (rw e (omega arith)) (Going.fit z lim s h t r 15 1 (λ op. true) refl e (omega arith) refl))
       (λ _. Going.finished z lim s h t r _ _ tt)
 
@@ -110,7 +110,7 @@ module _ (z : Sizes) (lim : Limited z) (s : Tables) (h : Tabled z (s .directory)
   finds-again-fine : t .stage ≡ 17 → Fine z s (Stages.findsAgain z s t)
   finds-again-fine e =
       let H = Going.holds-at z lim s h t r 17 e (omega arith) in
-      picked (Fine z s) (ltb (find z s (t .chunk) (t .key) .0) (z .entries))
+      picked (Fine z s) (Stages.hasKey z s t)
       (λ i. Going.going z lim s h t r 18 (t .chunk) (find z s (t .chunk) (t .key)) (t .old) noHandle 0 0 (omega arith)
       (record { fits = Going.fit z lim s h t r 17 18 (λ op. true) refl e (omega arith) refl; function = H .function; chunk = H .chunk; entry = i; old = H .old; new = refl; published = refl; swapped = refl })
       (r .chunk-of-key) (Going.found-held z lim s h t r (t .chunk) (ltb-true _ _ (H .chunk)) (t .key) 18))

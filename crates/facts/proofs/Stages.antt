@@ -57,7 +57,7 @@ module _ (z : Sizes) (lim : Limited z) (s : Tables) (h : Tabled z (s .directory)
   pub finds-fine : t .stage ≡ 2 → Fine z s (Stages.finds z s t)
   finds-fine e =
       let H = Going.holds-at z lim s h t r 2 e (omega arith) in
-      picked (Fine z s) (ltb (find z s (t .chunk) (t .key) .0) (z .entries))
+      picked (Fine z s) (Stages.hasKey z s t)
       (λ i. Going.going z lim s h t r 3 (t .chunk) (find z s (t .chunk) (t .key)) noHandle noHandle 0 0 (omega arith)
       (record { fits = Going.fit z lim s h t r 2 3 (λ op. true) refl e (omega arith) refl; function = H .function; chunk = H .chunk; entry = i; old = refl; new = refl; published = refl; swapped = refl })
       (r .chunk-of-key) (Going.found-held z lim s h t r (t .chunk) (ltb-true _ _ (H .chunk)) (t .key) 3))
@@ -187,7 +187,7 @@ module _ (z : Sizes) (lim : Limited z) (s : Tables) (h : Tabled z (s .directory)
   links-fine e =
       let H = Going.holds-at z lim s h t r 7 e (omega arith) in
       picked (Fine z s) (eqb (chunk s (t .chunk) .frozen) 0)
-      (λ _. picked (Fine z s) (Stages.hasKey z s t)
+      (λ _. picked (Fine z s) (Stages.hasOther z s t)
       (λ i. Going.going z lim s h t r 8 (t .chunk) (find z s (t .chunk) (t .key)) noHandle noHandle 0 0 (omega arith)
       (record { fits = Going.fit z lim s h t r 7 8 (λ op. true) refl e (omega arith) refl; function = H .function; chunk = H .chunk; entry = i; old = number-none (z .handles); new = refl; published = refl; swapped = refl })
       (r .chunk-of-key) (Going.found-held z lim s h t r (t .chunk) (ltb-true _ _ (H .chunk)) (t .key) 8))

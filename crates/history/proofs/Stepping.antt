@@ -147,7 +147,7 @@ module _ (z : Sizes) (lim : Limited z) (s : Tables) (r : Reached z s) (n : ℕ) 
 
     finds-goes : By (Stages.finds z s t)
     finds-goes =
-        picked By (ltb (find z s (t .chunk) (t .key) .0) (z .entries)) (λ _. goes (stands 2 e refl refl) refl refl refl found)
+        picked By (Stages.hasKey z s t) (λ _. goes (stands 2 e refl refl) refl refl refl found)
         (λ out. picked By (inserts (t .operation)) (λ _. away (stands 2 e refl refl) refl refl refl)
         (ends-absent (stands 2 e refl refl) (Gone.chunk (rw e refl) (missed (ltb-false _ _ out)))))
       where
@@ -214,20 +214,20 @@ module _ (z : Sizes) (lim : Limited z) (s : Tables) (r : Reached z s) (n : ℕ) 
   links-goes : t .stage ≡ 7 → By (Stages.links z s t)
   links-goes e =
       let st = stands 7 e refl refl in
-      picked By (eqb (chunk s (t .chunk) .frozen) 0) (λ _. picked By (ltb (find z s (t .chunk) (t .key) .0) (z .entries)) (λ _. away st refl refl refl) (λ _. away st refl refl refl)) (λ _. restarts st report.Frozen refl)
+      picked By (eqb (chunk s (t .chunk) .frozen) 0) (λ _. picked By (Stages.hasOther z s t) (λ _. away st refl refl refl) (λ _. away st refl refl refl)) (λ _. restarts st report.Frozen refl)
 
   takes-handle-goes : t .stage ≡ 8 → By (Stages.takesHandle z s t)
   takes-handle-goes e = let st = stands 8 e refl refl in picked By (ltb (lowestFree z s .0) (z .handles)) (λ _. away st refl refl refl) (λ _. Goes.refuses refl (st .0) (st .1) refl)
 
   -- ---- 10, 13 and 19
   publishes-goes : (t .stage ≡ 10) ⊎ ((t .stage ≡ 13) ⊎ (t .stage ≡ 19)) → By (Stages.publishes z s t)
-  publishes-goes (inl e) = let st = stands 10 e refl refl in rw e (picked By (eqb (chunk s (t .chunk) .frozen) 0) (λ _. away st refl refl refl) (λ _. restarts st report.Frozen refl))
-  publishes-goes (inr (inl e)) = let st = stands 13 e refl refl in rw e (picked By (eqb (chunk s (t .chunk) .frozen) 0) (λ _. still st refl refl refl (rw e refl) refl refl) (λ _. restarts st report.Frozen refl))
-  publishes-goes (inr (inr e)) = let st = stands 19 e refl refl in rw e (picked By (eqb (chunk s (t .chunk) .frozen) 0) (λ _. away st refl refl refl) (λ _. away st refl refl refl))
+  publishes-goes (inl e) = let st = stands 10 e refl refl in rw e (picked By (Stages.mayPublish z s t) (λ _. away st refl refl refl) (λ _. restarts st report.Frozen refl))
+  publishes-goes (inr (inl e)) = let st = stands 13 e refl refl in rw e (picked By (Stages.mayPublish z s t) (λ _. still st refl refl refl (rw e refl) refl refl) (λ _. restarts st report.Frozen refl))
+  publishes-goes (inr (inr e)) = let st = stands 19 e refl refl in rw e (picked By (Stages.mayPublish z s t) (λ _. away st refl refl refl) (λ _. away st refl refl refl))
 
   -- ---- 11, 14 and 20
   swaps-goes : t .stage ≡ 11 → By (Stages.swaps z s t (t .new))
-  swaps-goes e = rw e (picked By (eqb (entry z s (t .chunk) (t .entry) .handle .0) (t .old .0)) (λ i. turning early refl (rw (e, i) refl) unscanned refl refl) (λ i. away (early, rw (e, i) refl) (rw not-yet refl) refl refl))
+  swaps-goes e = rw e (picked By (Stages.stillNames z s t) (λ i. turning early refl (rw (e, i) refl) unscanned refl refl) (λ i. away (early, rw (e, i) refl) (rw not-yet refl) refl refl))
     where
       early : past t ≡ false
       early = rw e refl
@@ -239,12 +239,12 @@ module _ (z : Sizes) (lim : Limited z) (s : Tables) (r : Reached z s) (n : ℕ) 
       unscanned q = false≢true (rw q at (passes 11 (λ op. not (eqb op scan)) refl e (omega arith)))
 
   clears-goes : (t .stage ≡ 14) ⊎ (t .stage ≡ 20) → By (Stages.swaps z s t noHandle)
-  clears-goes (inl e) = let st = stands 14 e refl refl in rw e (picked By (eqb (entry z s (t .chunk) (t .entry) .handle .0) (t .old .0)) (λ _. still st refl refl refl (rw e refl) refl refl) (λ _. still st refl refl refl (rw e refl) refl refl))
-  clears-goes (inr e) = let st = stands 20 e refl refl in rw e (picked By (eqb (entry z s (t .chunk) (t .entry) .handle .0) (t .old .0)) (λ _. away st refl refl refl) (λ _. away st refl refl refl))
+  clears-goes (inl e) = let st = stands 14 e refl refl in rw e (picked By (Stages.stillNames z s t) (λ _. still st refl refl refl (rw e refl) refl refl) (λ _. still st refl refl refl (rw e refl) refl refl))
+  clears-goes (inr e) = let st = stands 20 e refl refl in rw e (picked By (Stages.stillNames z s t) (λ _. away st refl refl refl) (λ _. away st refl refl refl))
 
   -- ---- 12 and 15
   ends-insertion-goes : t .stage ≡ 12 → By (Stages.endsInsertion z s t)
-  ends-insertion-goes e = picked By (eqb (t .swapped) 0) (λ i. restarts (rw (e, eqb-true (t .swapped) 0 i) refl, rw e refl) report.Lost refl) (λ i. Goes.answers refl (picked (λ (v : Report). isAnswer v ≡ true) (eqb (t .operation) putIfAbsent) (λ _. refl) (λ _. refl)) (Ends.tells (rw (e, swapped (eqb-false _ _ i)) refl) (rw e refl) answer))
+  ends-insertion-goes e = picked By (Stages.swapFailed z s t) (λ i. restarts (rw (e, eqb-true (t .swapped) 0 i) refl, rw e refl) report.Lost refl) (λ i. Goes.answers refl (picked (λ (v : Report). isAnswer v ≡ true) (eqb (t .operation) putIfAbsent) (λ _. refl) (λ _. refl)) (Ends.tells (rw (e, swapped (eqb-false _ _ i)) refl) (rw e refl) answer))
     where
       swapped : t .swapped ≢ 0 → t .swapped ≡ 1
       swapped ne = omega (arith, ne, leb-true (t .swapped) 1 (holds-at 12 e (omega arith) .swapped))
@@ -253,7 +253,7 @@ module _ (z : Sizes) (lim : Limited z) (s : Tables) (r : Reached z s) (n : ℕ) 
       answer = ⊎-elim (λ i. rw (eqb-true (t .operation) put i) refl) (λ q. ⊎-elim (λ i. rw (eqb-true (t .operation) putIfAbsent i) refl) (λ i. rw (eqb-true (t .operation) upsert i) refl) (or-cases _ _ q)) (or-cases _ _ (passes 12 (λ op. eqb op put or (eqb op putIfAbsent or eqb op upsert)) refl e (omega arith)))
 
   ends-absent-goes : t .stage ≡ 15 → By (Stages.endsAbsent z s t)
-  ends-absent-goes e = let st = stands 15 e refl refl in picked By (eqb (t .swapped) 0) (λ _. restarts st report.Lost refl) (λ _. ends-absent st (Gone.old (rw e refl) deleted) no-insertion)
+  ends-absent-goes e = let st = stands 15 e refl refl in picked By (Stages.swapFailed z s t) (λ _. restarts st report.Lost refl) (λ _. ends-absent st (Gone.old (rw e refl) deleted) no-insertion)
     where
       deleted : mark s (t .old) ≢ 0
       deleted q = omega (arith, q, reached-marked z lim r .old-deleted n (λ i. omega (arith, e, i)) (λ i. omega (arith, e, i)) (ltb-true _ _ (holds-at 15 e (omega arith) .old)))
@@ -267,7 +267,7 @@ module _ (z : Sizes) (lim : Limited z) (s : Tables) (r : Reached z s) (n : ℕ) 
   removed m e all ne st = Goes.answers refl refl (Ends.tells (st .0) (st .1) (rw (eqb-true (t .operation) remove (passes m (λ op. eqb op remove) all e ne)) refl))
 
   finds-again-goes : t .stage ≡ 17 → By (Stages.findsAgain z s t)
-  finds-again-goes e = let st = stands 17 e refl refl in picked By (ltb (find z s (t .chunk) (t .key) .0) (z .entries)) (λ _. away st refl refl refl) (λ _. removed 17 e refl (omega arith) st)
+  finds-again-goes e = let st = stands 17 e refl refl in picked By (Stages.hasKey z s t) (λ _. away st refl refl refl) (λ _. removed 17 e refl (omega arith) st)
 
   reads-again-goes : t .stage ≡ 18 → By (Stages.readsAgain z s t)
   reads-again-goes e = let st = stands 18 e refl refl in picked By (eqb (entry z s (t .chunk) (t .entry) .handle .0) (t .old .0)) (λ _. away st refl refl refl) (λ _. removed 18 e refl (omega arith) st)

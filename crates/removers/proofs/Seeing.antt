@@ -173,10 +173,10 @@ module _ (z : Sizes) (lim : Limited z) (s : Tables) (r : Reached z s) where
         goes-on a b v =
             by-stage (GoesOn x) (t .stage) a b
             (λ e. subst GoesOn (sym (does-at z s t 16 e)) (refl, omega arith, omega arith))
-            (λ e. subst GoesOn (sym (does-at z s t 17 e)) (picked GoesOn (ltb (find z s (t .chunk) (t .key) .0) (z .entries)) (λ _. (refl, omega arith, omega arith)) (λ o. absurd (missed (p .chunk (omega arith)) (u .chunk (omega arith) (omega arith) v) (ltb-false _ _ o)))))
+            (λ e. subst GoesOn (sym (does-at z s t 17 e)) (picked GoesOn (Stages.hasKey z s t) (λ _. (refl, omega arith, omega arith)) (λ o. absurd (missed (p .chunk (omega arith)) (u .chunk (omega arith) (omega arith) v) (ltb-false _ _ o)))))
             (λ e. subst GoesOn (sym (does-at z s t 18 e)) (picked GoesOn (eqb (entry z s (t .chunk) (t .entry) .handle .0) (t .old .0)) (λ _. (refl, omega arith, omega arith)) (λ o. absurd (eqb-false _ _ o (u .entry (omega arith) (omega arith) v)))))
-            (λ e. subst GoesOn (sym (does-at z s t 19 e)) (picked GoesOn (eqb (chunk s (t .chunk) .frozen) 0) (λ _. (refl, omega arith, omega arith)) (λ _. picked GoesOn (eqb (t .stage) 19) (λ _. (refl, omega arith, omega arith)) (λ o. absurd (eqb-false _ _ o e)))))
-            (λ e. subst GoesOn (sym (does-at z s t 20 e)) (picked GoesOn (eqb (entry z s (t .chunk) (t .entry) .handle .0) (t .old .0)) (λ _. (refl, omega arith, omega arith)) (λ _. (refl, omega arith, omega arith))))
+            (λ e. subst GoesOn (sym (does-at z s t 19 e)) (picked GoesOn (Stages.mayPublish z s t) (λ _. (refl, omega arith, omega arith)) (λ _. picked GoesOn (eqb (t .stage) 19) (λ _. (refl, omega arith, omega arith)) (λ o. absurd (eqb-false _ _ o e)))))
+            (λ e. subst GoesOn (sym (does-at z s t 20 e)) (picked GoesOn (Stages.stillNames z s t) (λ _. (refl, omega arith, omega arith)) (λ _. (refl, omega arith, omega arith))))
             (λ e. absurd (u .done e v))
 
         -- ---- and sees the entry
@@ -195,7 +195,7 @@ module _ (z : Sizes) (lim : Limited z) (s : Tables) (r : Reached z s) where
 
         sees-17 : t .stage ≡ 17 → SeesThen x
         unfolding Stages.stageDoes
-        sees-17 e = subst SeesThen (sym (does-at z s t 17 e)) (picked SeesThen (ltb (find z s (t .chunk) (t .key) .0) (z .entries)) (λ i. record { chunk = λ _ _ v. u .chunk (omega arith) (omega arith) v; entry = λ _ _ v. found (p .chunk (omega arith)) (u .chunk (omega arith) (omega arith) v) (ltb-true _ _ i); done = λ q. absurd (apart q) }) (λ _. sees-none z _ idleTask (λ a _. omega arith)))
+        sees-17 e = subst SeesThen (sym (does-at z s t 17 e)) (picked SeesThen (Stages.hasKey z s t) (λ i. record { chunk = λ _ _ v. u .chunk (omega arith) (omega arith) v; entry = λ _ _ v. found (p .chunk (omega arith)) (u .chunk (omega arith) (omega arith) v) (ltb-true _ _ i); done = λ q. absurd (apart q) }) (λ _. sees-none z _ idleTask (λ a _. omega arith)))
           where
             apart : _≡_ {A = ℕ} 18 21 → ⊥
             apart q = omega arith
@@ -210,7 +210,7 @@ module _ (z : Sizes) (lim : Limited z) (s : Tables) (r : Reached z s) where
         sees-19 : t .stage ≡ 19 → SeesThen x
         unfolding Stages.stageDoes
         sees-19 e =
-            subst SeesThen (sym (does-at z s t 19 e)) (picked SeesThen (eqb (chunk s (t .chunk) .frozen) 0) (λ _. record { chunk = λ _ _ v. u .chunk (omega arith) (omega arith) v; entry = λ _ _ v. u .entry (omega arith) (omega arith) v; done = λ q. absurd (apart q) })
+            subst SeesThen (sym (does-at z s t 19 e)) (picked SeesThen (Stages.mayPublish z s t) (λ _. record { chunk = λ _ _ v. u .chunk (omega arith) (omega arith) v; entry = λ _ _ v. u .entry (omega arith) (omega arith) v; done = λ q. absurd (apart q) })
             (λ _. picked SeesThen (eqb (t .stage) 19) (λ _. sees-none z _ _ (λ a _. omega arith)) (λ _. sees-none z _ _ (λ a _. omega arith))))
           where
             apart : t .stage + 1 ≡ 21 → ⊥
@@ -222,7 +222,7 @@ module _ (z : Sizes) (lim : Limited z) (s : Tables) (r : Reached z s) where
         sees-20 e = record { chunk = λ _ b. absurd (over b); entry = λ _ b. absurd (over b); done = λ _ v. gone (subst (λ (h : HandleNo). NamedLive z s′ (h .0)) (row .1) v) }
           where
             row : (x .task .stage ≡ 21) × (x .task .old ≡ t .old)
-            row = subst (λ (y : Decision). (y .task .stage ≡ 21) × (y .task .old ≡ t .old)) (sym (does-at z s t 20 e)) (picked (λ (y : Decision). (y .task .stage ≡ 21) × (y .task .old ≡ t .old)) (eqb (entry z s (t .chunk) (t .entry) .handle .0) (t .old .0)) (λ _. (omega arith, refl)) (λ _. (omega arith, refl)))
+            row = subst (λ (y : Decision). (y .task .stage ≡ 21) × (y .task .old ≡ t .old)) (sym (does-at z s t 20 e)) (picked (λ (y : Decision). (y .task .stage ≡ 21) × (y .task .old ≡ t .old)) (Stages.stillNames z s t) (λ _. (omega arith, refl)) (λ _. (omega arith, refl)))
 
             over : x .task .stage ≤ 20 → ⊥
             over b = omega (arith, row .0)

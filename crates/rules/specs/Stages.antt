@@ -61,9 +61,17 @@ module _ (z : Sizes) (s : Tables) (t : Task) where
   abbrev pub stillNames : Bool
   stillNames = eqb (entry z s (t .chunk) (t .entry) .handle .0) (t .old .0)
 
-  -- a linked entry has the key
+  -- a linked entry of the held chunk has the key
   abbrev pub hasKey : Bool
   hasKey = ltb (find z s (t .chunk) (t .key) .0) (z .entries)
+
+  -- one has it already where the task's own entry waits to be linked
+  abbrev pub hasOther : Bool
+  hasOther = hasKey
+
+  -- the swap found another handle
+  abbrev pub swapFailed : Bool
+  swapFailed = eqb (t .swapped) 0
 
   -- ---- the stages
   -- 1 locate, and 16 for a remove that has set its mark: the live chunk whose range has the key
@@ -74,7 +82,7 @@ module _ (z : Sizes) (s : Tables) (t : Task) where
   abbrev pub finds : Decision
   finds =
       let e = find z s (t .chunk) (t .key) in
-      pick (ltb (e .0) (z .entries))
+      pick hasKey
       (moves (goesTo t 3 (t .chunk) e noHandle noHandle 0 0) write.Nothing)
       (pick (inserts (t .operation)) (moves (keeps t 6) write.Nothing) (finishesAbsent t))
 
@@ -123,7 +131,7 @@ module _ (z : Sizes) (s : Tables) (t : Task) where
       let other = find z s (t .chunk) (t .key) in
       let before = place z s (t .chunk) (t .key) in
       pick (eqb (chunk s (t .chunk) .frozen) 0)
-      (pick hasKey
+      (pick hasOther
       (moves (goesTo t 8 (t .chunk) other noHandle noHandle 0 0) write.Nothing)
       (moves (keeps t 8) (write.Link (t .chunk) (t .entry) before)))
       (restarts t report.Frozen)
@@ -156,17 +164,17 @@ module _ (z : Sizes) (s : Tables) (t : Task) where
 
   -- 12 unpublish
   abbrev pub endsInsertion : Decision
-  endsInsertion = pick (eqb (t .swapped) 0) (restarts t report.Lost) (finishes write.Nothing (pick (eqb (t .operation) putIfAbsent) report.True report.Done))
+  endsInsertion = pick swapFailed (restarts t report.Lost) (finishes write.Nothing (pick (eqb (t .operation) putIfAbsent) report.True report.Done))
 
   -- 15 unpublish
   abbrev pub endsAbsent : Decision
-  endsAbsent = pick (eqb (t .swapped) 0) (restarts t report.Lost) (finishesAbsent t)
+  endsAbsent = pick swapFailed (restarts t report.Lost) (finishesAbsent t)
 
   -- 17 find again
   abbrev pub findsAgain : Decision
   findsAgain =
       let e = find z s (t .chunk) (t .key) in
-      pick (ltb (e .0) (z .entries))
+      pick hasKey
       (moves (goesTo t 18 (t .chunk) e (t .old) noHandle 0 0) write.Nothing)
       (finishes write.Nothing report.True)
 
