@@ -24,7 +24,7 @@ use Rattle.facts.specs.Simulates.{decides, changeAnswer}
 use Rattle.simulation.proofs.Living.{reached-lively}
 use Rattle.simulation.proofs.Simulating.{beside-holds}
 use Rattle.history.specs.Runs.{tablesAt, mapAt, reportAt, taskAt, DecidesAt, Working}
-use Rattle.history.specs.Answers.{isAnswer, NeverDecides, ByChange, ByLooking, Answers}
+use Rattle.history.specs.Answers.{isAnswer, NeverDecides, ByChange, ByLooking, AnswersAsMap}
 use Rattle.history.specs.Turns.{Steps, Turn}
 use Rattle.history.specs.Goes.{past, ending, Ends, Goes}
 use Rattle.history.specs.Ghosts.{Ghost, WasAbsent}
@@ -162,5 +162,5 @@ module _ (z : Sizes) (lim : Limited z) (run : ℕ → Call) where
   refused n op k a f j zero w e r = absurd (not-suc-le-zero (w .before))
   refused n op k a f j (suc i) w e r = step-refused n op k a f j i w e r
 
-pub answers : (z : Sizes) → Limited z → Answers z
+pub answers : (z : Sizes) → Limited z → AnswersAsMap z
 answers z lim = record { begun = λ run n i. begun z run lim n i; ends = ends z lim; answered = answered z lim; refused = refused z lim }

@@ -52,7 +52,7 @@ module _ (z : Sizes) (run : ℕ → Call) where
     pub to : moment ≤ i
     pub right : sequential (mapAt z run moment) op k a f ≡ effect answer (mapAt z run moment)
 
-pub record Answers (z : Sizes) : Type 0 where
+pub record AnswersAsMap (z : Sizes) : Type 0 where
   -- an operation at work was started by a call
   pub begun : (run : ℕ → Call) (n i : ℕ) → taskAt z run i n .stage ≢ 0 → Begun z run n i
   -- it ends by a step of its own, with an answer or by refusal 9

@@ -22,13 +22,12 @@ use Rattle.rules.proofs.Free.{none-free}
 use Rattle.rules.proofs.Refusals.{refusals}
 use Rattle.laws.proofs.Tests.{picked, and-right}
 use Rattle.facts.specs.Facts.{Limited}
-use Rattle.facts.specs.Reached.{Reached}
 use Rattle.facts.proofs.Reaching.{reached-kept}
 use Rattle.holds.proofs.Unlinked.{reached-unlinked}
 use Rattle.simulation.proofs.Keeping.{reached-copied}
 use Rattle.simulation.proofs.Living.{reached-lively}
 use Rattle.simulation.proofs.Simulating.{beside-reached, beside-holds}
-use Rattle.removers.specs.Removers.{DeletedHeld}
+use Rattle.removers.proofs.Removing.{reached-removers}
 use Rattle.supply.specs.Counting.{oneOf, handleUnder, keysIn, TakenMost}
 use Rattle.supply.specs.Enough.{Enough}
 use Rattle.supply.proofs.Counting.{pigeonhole, below, below-in, below-apart, below-length}
@@ -58,23 +57,23 @@ unfolding keysIn
 keys-most z s hs [] = le-refl 0
 keys-most z s hs (x ∷ m) = picked (λ (l : List Pair). length l ≤ length (x ∷ m)) (oneOf hs (handleUnder z s (x .key))) (λ _. omega (arith, keys-most z s hs m)) (λ _. omega (arith, keys-most z s hs m))
 
-module _ (z : Sizes) (lim : Limited z) (deleted-held : (s : Tables) → Reached z s → DeletedHeld z s) where
-  pub taken-most-by : TakenMost z
-  taken-most-by =
+module _ (z : Sizes) (lim : Limited z) where
+  pub taken-most : TakenMost z
+  taken-most =
       record {
         taken-most = λ s m b hs apart taken.
             let r = beside-reached z lim b in
             let kept = reached-kept z lim r in
             rw (reasons-length z lim s kept m hs) at
             (pigeonhole hs (reasons z lim s kept m hs) apart
-            (λ h o. reason z lim s kept m hs (reached-unlinked z lim r) (reached-copied z lim r) (reached-lively z lim r) (beside-holds z lim b .0) (deleted-held s r) h o (taken h o)));
+            (λ h o. reason z lim s kept m hs (reached-unlinked z lim r) (reached-copied z lim r) (reached-lively z lim r) (beside-holds z lim b .0) (reached-removers z lim r .deleted-held) h o (taken h o)));
       }
 
-  pub enough-by : Enough z
-  enough-by =
+  pub enough : Enough z
+  enough =
       record {
         enough = λ s m b few n e.
-            let all = taken-most-by .taken-most s m b (below (z .handles)) (below-apart (z .handles))
+            let all = taken-most .taken-most s m b (below (z .handles)) (below-apart (z .handles))
             (λ h o. record { inside = below-in (z .handles) h o; notFree = none-free (s .entries) (s .tasks) (z .handles) (none-left z lim s n e) h (below-in (z .handles) h o) }) in
             omega (arith, all, few, below-length (z .handles), keys-most z s (below (z .handles)) m);
       }
