@@ -2,4 +2,3 @@ pub mod Filling
 pub mod Held
 pub mod Laws
 pub mod Unique
-pub mod Useless

@@ -14,7 +14,7 @@ use Rattle.rules.specs.Rebalance.{Outcome, unusedCount}
 use Rattle.rules.specs.Shape.{each, liveCount, ascendsFrom, chainCount, linkedFrom, shape}
 use Rattle.rules.specs.Calls.{Call, fresh, does, calls}
 use Rattle.rules.specs.Calls.Call.{start, step}
-use Rattle.calls.specs.Useless.{Build, Keeps, refusesAll, answersDone, leavesStage, doesAllAtFirst, runsOn, calledAll}
+use Rattle.useless.specs.Useless.{Build, Keeps, refusesAll, answersDone, leavesStage, doesAllAtFirst, runsOn, calledAll}
 
 -- key 5 is present with 50, and a put of 60 under it is about to take its first step
 abbrev calledFirst : List Call

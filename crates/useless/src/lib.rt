@@ -1,0 +1,1 @@
+// No function: builds that the promise shuts out.
