@@ -118,8 +118,10 @@ static uint64_t turn(uint64_t n, int more)
     } else if (more) {
         uint64_t key = chance(400);
         operation = 1 + chance(7);
+        uint64_t argument = operation == KAMRDUCH_SCAN ? key + 25 : chance(1000);
+        uint64_t function = 1 + chance(3);
         asked[operation]++;
-        count(operation, start(n, operation, key, operation == KAMRDUCH_SCAN ? key + 25 : chance(1000), 1 + chance(3)));
+        count(operation, start(n, operation, key, argument, function));
     }
     return report;
 }
