@@ -1,41 +1,27 @@
 -- The other stages of a task, and so every stage: the write is allowed, and the task's row afterwards has the facts.
-use Prim.Native.Nat.{ℕ, zero, suc, _+_, _≤_, _<_}
-use mathlib.Core.Path.{_≡_, refl, sym, ap, _∙_, subst}
-use mathlib.Core.Logic.{_⊎_, inl, inr, ⊎-elim, ⊎-map, _≢_}
-use mathlib.Core.Bool.{Bool, true, false, not, false≢true}
-use mathlib.Core.List.{List, [], _∷_, List·Memᴰ, List·Memᴰ·head}
-use native.Mathlib.Nat.{le-trans, le-refl}
+use Prim.Native.Nat.{ℕ, _<_}
+use mathlib.Core.Path.{_≡_, refl, sym, _∙_}
+use mathlib.Core.Logic.{_⊎_, inl, inr, _≢_}
+use mathlib.Core.Bool.{true}
+use mathlib.Core.List.{List}
 use native.Mathlib.Omega.{arith}
 use lib.Dec.{eqb, ltb, leb}
-use lib.ListN.{length, getD, set}
-use borrow.Author.Tests.{lt-ltb, le-ltb, le-leb, eq-eqb, ne-eqb, ltb-true, ltb-false, leb-true, eqb-true, eqb-false}
+use lib.ListN.{set}
+use borrow.Author.Tests.{ltb-true, eqb-true}
 use Rattle.rules.specs.declared.Sizes.{Sizes}
 use Rattle.rules.specs.declared.Task.{Task}
-use Rattle.rules.specs.declared.Chunk.{Chunk}
 use Rattle.rules.specs.declared.Entry.{Entry}
-use Rattle.rules.specs.declared.ChunkNo.{ChunkNo}
-use Rattle.rules.specs.declared.EntryNo.{EntryNo}
 use Rattle.rules.specs.declared.HandleNo.{HandleNo}
-use Rattle.rules.specs.declared.Decision.{Decision}
-use Rattle.rules.specs.declared.Report.{Report}
-use Rattle.rules.specs.declared.Write.{Write}
 use Rattle.rules.specs.declared.Write.the-variants as write
-use Rattle.rules.specs.Words.{pick, _and_, _or_, NONE, noChunk, noEntry, noHandle, entryNo, unused, live, new, retired, usesFunction, inserts, get, put, putIfAbsent, compute, remove}
-use Rattle.rules.specs.Tables.{Tables, row, idleTask, withTasks, chunkAt, entryAt, chunk, entry, mark}
-use Rattle.rules.specs.Walks.{locate, find, place, lowestFree, firstPresent}
+use Rattle.rules.specs.Words.{NONE, noHandle, new}
+use Rattle.rules.specs.Tables.{Tables, row, chunk, entry}
+use Rattle.rules.specs.Walks.{locate, find, firstPresent}
 use Rattle.rules.specs.Stages
-use Rattle.rules.specs.Shape.{numbers, heldAs, flagAs, fitsOperation}
-use Rattle.laws.specs.Counts.{Every}
-use Rattle.laws.proofs.Tests.{picked, by-test, both, or-cases}
-use Rattle.views.specs.Views.{Links, InRange}
-use Rattle.views.proofs.Entries.{links-length, find-hit, find-miss, links-below}
-use Rattle.views.proofs.Chunks.{chain-locate, chain-live}
-use Rattle.facts.specs.Facts.{Limited, ListRight, listed, Chained, Tabled, Holds, holdAt, ChunkOfKey, EntryHeld, Tasked, Waits, Allowed}
-use Rattle.facts.proofs.Numbers.{number-in, number-none, number-cases}
-use Rattle.facts.proofs.Operations.{throughout, implies, fits-move}
-use Rattle.facts.proofs.Shapes.{chain-short}
-use Rattle.facts.proofs.Writes.{slot-held, slot-written}
-use Rattle.facts.proofs.Applying.{link-applied-linked, applied-by}
+use Rattle.rules.specs.Shape.{numbers}
+use Rattle.laws.proofs.EachStage.{each-stage}
+use Rattle.laws.proofs.Tests.{picked}
+use Rattle.facts.specs.Facts.{Limited, Tabled, Holds, holdAt, EntryHeld, Tasked}
+use Rattle.facts.proofs.Numbers.{number-in, number-none}
 use Rattle.facts.proofs.Going
 use Rattle.facts.proofs.Going.{Fine}
 use Rattle.facts.proofs.Stages as early
@@ -150,29 +136,25 @@ module _ (z : Sizes) (lim : Limited z) (s : Tables) (h : Tabled z (s .directory)
 
   -- ---- every stage
   pub decides-fine : Fine z s (Stages.decide z s t)
-  unfolding Stages.stageDoes
   decides-fine =
-      picked P (eqb n 1 or eqb n 16) (λ e. early.locates-fine z lim s h t r (⊎-map (eqb-true n 1) (eqb-true n 16) (or-cases _ _ e)))
-      (λ _. picked P (eqb n 2) (λ e. early.finds-fine z lim s h t r (eqb-true n 2 e))
-      (λ _. picked P (eqb n 3) (λ e. early.reads-fine z lim s h t r (eqb-true n 3 e))
-      (λ _. picked P (eqb n 4) (λ e. early.checks-fine z lim s h t r (eqb-true n 4 e))
-      (λ _. picked P (eqb n 5) (λ e. early.applies-fine z lim s h t r (eqb-true n 5 e))
-      (λ _. picked P (eqb n 6) (λ e. early.takes-entry-fine z lim s h t r (eqb-true n 6 e))
-      (λ _. picked P (eqb n 7) (λ e. early.links-fine z lim s h t r (eqb-true n 7 e))
-      (λ _. picked P (eqb n 8) (λ e. early.takes-handle-fine z lim s h t r (eqb-true n 8 e))
-      (λ _. picked P (eqb n 9) (λ e. early.writes-fine z lim s h t r (eqb-true n 9 e))
-      (λ _. picked P (eqb n 10 or eqb n 13 or eqb n 19) (λ e. early.publishes-fine z lim s h t r (⊎-map (eqb-true n 10) (λ o. ⊎-map (eqb-true n 13) (eqb-true n 19) (or-cases _ _ o)) (or-cases _ _ e)))
-      (λ _. picked P (eqb n 11) (λ e. swaps-fine (eqb-true n 11 e))
-      (λ _. picked P (eqb n 14 or eqb n 20) (λ e. clears-fine (⊎-map (eqb-true n 14) (eqb-true n 20) (or-cases _ _ e)))
-      (λ _. picked P (eqb n 12) (λ e. ends-insertion-fine (eqb-true n 12 e))
-      (λ _. picked P (eqb n 15) (λ e. ends-absent-fine (eqb-true n 15 e))
-      (λ _. picked P (eqb n 17) (λ e. finds-again-fine (eqb-true n 17 e))
-      (λ _. picked P (eqb n 18) (λ e. reads-again-fine (eqb-true n 18 e))
-      (λ _. picked P (eqb n 21) (λ e. Going.finished z lim s h t r _ _ tt)
-      (λ _. picked P (eqb n 22) (λ e. scans-fine (eqb-true n 22 e)) (λ _. record { allowed = tt; task = λ ts. r }))))))))))))))))))
-    where
-      n : ℕ
-      n = t .stage
-
-      P : (Sizes → Tables → Task → Decision) → Type 0
-      P f = Fine z s (f z s t)
+      each-stage z s t (Fine z s) (record {
+        locates = early.locates-fine z lim s h t r;
+        finds = early.finds-fine z lim s h t r;
+        reads = early.reads-fine z lim s h t r;
+        checks = early.checks-fine z lim s h t r;
+        applies = early.applies-fine z lim s h t r;
+        takesEntry = early.takes-entry-fine z lim s h t r;
+        links = early.links-fine z lim s h t r;
+        takesHandle = early.takes-handle-fine z lim s h t r;
+        writes = early.writes-fine z lim s h t r;
+        publishes = early.publishes-fine z lim s h t r;
+        swaps = swaps-fine;
+        clears = clears-fine;
+        endsInsertion = ends-insertion-fine;
+        endsAbsent = ends-absent-fine;
+        findsAgain = finds-again-fine;
+        readsAgain = reads-again-fine;
+        endsRemove = λ e. Going.finished z lim s h t r _ _ tt;
+        scans = scans-fine;
+        stays = λ _. record { allowed = tt; task = λ ts. r };
+      })

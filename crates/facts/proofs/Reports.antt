@@ -1,8 +1,8 @@
 -- No call on tables that have the shape reports refusal 10.
-use Prim.Native.Nat.{ℕ, zero, suc, _+_, _<_}
+use Prim.Native.Nat.{ℕ}
 use mathlib.Core.Path.{_≡_, refl, sym, ap, _∙_}
 use mathlib.Core.Logic.{_≢_}
-use mathlib.Core.Bool.{Bool, true, false, false≢true}
+use mathlib.Core.Bool.{Bool, false, false≢true}
 use lib.Dec.{eqb, ltb, leb}
 use Rattle.rules.specs.declared.Sizes.{Sizes}
 use Rattle.rules.specs.declared.Task.{Task}
@@ -10,16 +10,17 @@ use Rattle.rules.specs.declared.HandleNo.{HandleNo}
 use Rattle.rules.specs.declared.Decision.{Decision}
 use Rattle.rules.specs.declared.Report.{Report}
 use Rattle.rules.specs.declared.Report.the-variants as report
-use Rattle.rules.specs.Words.{pick, _and_, _or_, get, put, putIfAbsent, compute, remove, inserts, scan, usesFunction, idle, toDrain, toCopy, toSwap, toRelease}
+use Rattle.rules.specs.Words.{_and_, _or_, noHandle, get, put, putIfAbsent, compute, remove, inserts, scan, usesFunction, idle, toDrain, toCopy, toSwap, toRelease}
 use Rattle.rules.specs.Told.{told}
 use Rattle.rules.specs.Tables.{Tables, chunk, entry, mark, task}
-use Rattle.rules.specs.Walks.{locate, find, lowestFree, firstPresent}
+use Rattle.rules.specs.Walks.{locate, lowestFree, firstPresent}
 use Rattle.rules.specs.Stages
-use Rattle.rules.specs.Rebalance.{Outcome, unusedCount, publishedOn, heldChunk, namingFrom, begins, drains, copies, swapsIn, releases, rebalanceDoes}
-use Rattle.rules.specs.Calls.{Call, starts, steps, does}
+use Rattle.rules.specs.Rebalance.{Outcome, unusedCount, publishedOn, heldChunk, namingFrom, rebalanceDoes}
+use Rattle.rules.specs.Calls.{Call, does}
 use Rattle.rules.specs.Calls.Call.{start, step, begin, rebalance}
 use lib.ListN.{length}
 use Prim.Native.Nat.{_/_}
+use Rattle.laws.proofs.EachStage.{each-stage}
 use Rattle.laws.proofs.Tests.{picked}
 
 -- the report is refusal 10
@@ -41,32 +42,28 @@ module _ (z : Sizes) (s : Tables) where
     swaps-ok h = picked Ok (Stages.stillNames z s t) (λ _. refl) (λ _. refl)
 
     decides-ok : Ok (Stages.decide z s t)
-    unfolding Stages.stageDoes
     decides-ok =
-        picked P (eqb n 1 or eqb n 16) (λ _. refl)
-        (λ _. picked P (eqb n 2) (λ _. picked Ok (Stages.hasKey z s t) (λ _. refl) (λ _. picked Ok (inserts (t .operation)) (λ _. refl) (λ _. absent-ok)))
-        (λ _. picked P (eqb n 3) (λ _. picked Ok (ltb (entry z s (t .chunk) (t .entry) .handle .0) (z .handles)) (λ _. refl) (λ _. picked Ok (inserts (t .operation)) (λ _. refl) (λ _. absent-ok)))
-        (λ _. picked P (eqb n 4) (λ _. picked Ok (eqb (mark s (t .old)) 0) (λ _. picked Ok (eqb (t .operation) get) (λ _. refl) (λ _. picked Ok (eqb (t .operation) putIfAbsent) (λ _. refl) (λ _. refl))) (λ _. picked Ok (eqb (t .operation) get) (λ _. absent-ok) (λ _. refl)))
-        (λ _. picked P (eqb n 5) (λ _. picked Ok (eqb (mark s (t .old)) 0) (λ _. picked Ok (eqb (t .operation) remove) (λ _. refl) (λ _. picked Ok (eqb (t .operation) put) (λ _. refl) (λ _. picked (λ (r : Report). ten r ≡ false) (eqb (t .operation) compute) (λ _. refl) (λ _. refl)))) (λ _. picked Ok (inserts (t .operation)) (λ _. refl) (λ _. refl)))
-        (λ _. picked P (eqb n 6) (λ _. picked Ok (eqb (chunk s (t .chunk) .frozen) 0) (λ _. picked Ok (ltb (chunk s (t .chunk) .used) (z .entries)) (λ _. refl) (λ _. refl)) (λ _. refl))
-        (λ _. picked P (eqb n 7) (λ _. picked Ok (eqb (chunk s (t .chunk) .frozen) 0) (λ _. picked Ok (Stages.hasOther z s t) (λ _. refl) (λ _. refl)) (λ _. refl))
-        (λ _. picked P (eqb n 8) (λ _. picked Ok (ltb (lowestFree z s .0) (z .handles)) (λ _. refl) (λ _. refl))
-        (λ _. picked P (eqb n 9) (λ _. refl)
-        (λ _. picked P (eqb n 10 or eqb n 13 or eqb n 19) (λ _. picked Ok (Stages.mayPublish z s t) (λ _. refl) (λ _. picked Ok (eqb (t .stage) 19) (λ _. refl) (λ _. refl)))
-        (λ _. picked P (eqb n 11) (λ _. swaps-ok _)
-        (λ _. picked P (eqb n 14 or eqb n 20) (λ _. swaps-ok _)
-        (λ _. picked P (eqb n 12) (λ _. picked Ok (Stages.swapFailed z s t) (λ _. refl) (λ _. picked (λ (r : Report). ten r ≡ false) (eqb (t .operation) putIfAbsent) (λ _. refl) (λ _. refl)))
-        (λ _. picked P (eqb n 15) (λ _. picked Ok (Stages.swapFailed z s t) (λ _. refl) (λ _. absent-ok))
-        (λ _. picked P (eqb n 17) (λ _. picked Ok (Stages.hasKey z s t) (λ _. refl) (λ _. refl))
-        (λ _. picked P (eqb n 18) (λ _. picked Ok (eqb (entry z s (t .chunk) (t .entry) .handle .0) (t .old .0)) (λ _. refl) (λ _. refl))
-        (λ _. picked P (eqb n 21) (λ _. refl)
-        (λ _. picked P (eqb n 22) (λ _. picked Ok (leb (t .argument) (t .key)) (λ _. refl) (λ _. picked Ok (ltb (firstPresent z s (locate z s (t .key)) (t .key) (t .argument) .0) (z .entries)) (λ _. refl) (λ _. picked Ok (ltb (chunk s (locate z s (t .key)) .next .0) (z .chunks)) (λ _. refl) (λ _. refl)))) (λ _. refl))))))))))))))))))
-      where
-        n : ℕ
-        n = t .stage
-
-        P : (Sizes → Tables → Task → Decision) → Type 0
-        P f = Ok (f z s t)
+        each-stage z s t Ok (record {
+          locates = λ _. refl;
+          finds = λ _. picked Ok (Stages.hasKey z s t) (λ _. refl) (λ _. picked Ok (inserts (t .operation)) (λ _. refl) (λ _. absent-ok));
+          reads = λ _. picked Ok (ltb (entry z s (t .chunk) (t .entry) .handle .0) (z .handles)) (λ _. refl) (λ _. picked Ok (inserts (t .operation)) (λ _. refl) (λ _. absent-ok));
+          checks = λ _. picked Ok (eqb (mark s (t .old)) 0) (λ _. picked Ok (eqb (t .operation) get) (λ _. refl) (λ _. picked Ok (eqb (t .operation) putIfAbsent) (λ _. refl) (λ _. refl))) (λ _. picked Ok (eqb (t .operation) get) (λ _. absent-ok) (λ _. refl));
+          applies = λ _. picked Ok (eqb (mark s (t .old)) 0) (λ _. picked Ok (eqb (t .operation) remove) (λ _. refl) (λ _. picked Ok (eqb (t .operation) put) (λ _. refl) (λ _. picked (λ (r : Report). ten r ≡ false) (eqb (t .operation) compute) (λ _. refl) (λ _. refl)))) (λ _. picked Ok (inserts (t .operation)) (λ _. refl) (λ _. refl));
+          takesEntry = λ _. picked Ok (eqb (chunk s (t .chunk) .frozen) 0) (λ _. picked Ok (ltb (chunk s (t .chunk) .used) (z .entries)) (λ _. refl) (λ _. refl)) (λ _. refl);
+          links = λ _. picked Ok (eqb (chunk s (t .chunk) .frozen) 0) (λ _. picked Ok (Stages.hasOther z s t) (λ _. refl) (λ _. refl)) (λ _. refl);
+          takesHandle = λ _. picked Ok (ltb (lowestFree z s .0) (z .handles)) (λ _. refl) (λ _. refl);
+          writes = λ _. refl;
+          publishes = λ _. picked Ok (Stages.mayPublish z s t) (λ _. refl) (λ _. picked Ok (eqb (t .stage) 19) (λ _. refl) (λ _. refl));
+          swaps = λ _. swaps-ok (t .new);
+          clears = λ _. swaps-ok noHandle;
+          endsInsertion = λ _. picked Ok (Stages.swapFailed z s t) (λ _. refl) (λ _. picked (λ (r : Report). ten r ≡ false) (eqb (t .operation) putIfAbsent) (λ _. refl) (λ _. refl));
+          endsAbsent = λ _. picked Ok (Stages.swapFailed z s t) (λ _. refl) (λ _. absent-ok);
+          findsAgain = λ _. picked Ok (Stages.hasKey z s t) (λ _. refl) (λ _. refl);
+          readsAgain = λ _. picked Ok (eqb (entry z s (t .chunk) (t .entry) .handle .0) (t .old .0)) (λ _. refl) (λ _. refl);
+          endsRemove = λ _. refl;
+          scans = λ _. picked Ok (leb (t .argument) (t .key)) (λ _. refl) (λ _. picked Ok (ltb (firstPresent z s (locate z s (t .key)) (t .key) (t .argument) .0) (z .entries)) (λ _. refl) (λ _. picked Ok (ltb (chunk s (locate z s (t .key)) .next .0) (z .chunks)) (λ _. refl) (λ _. refl)));
+          stays = λ _. refl;
+        })
 
   abbrev Okay : Outcome → Type 0
   Okay o = ten (o .report) ≡ false

@@ -1,28 +1,24 @@
 -- Each stage of a task: what its row holds afterwards, and what its write names.
-use Prim.Native.Nat.{ℕ, zero, suc, _+_, _*_, _≤_, _<_}
-use mathlib.Core.Path.{_≡_, refl, sym, ap, _∙_}
-use mathlib.Core.Logic.{_⊎_, inl, inr, ⊎-elim, ⊎-map, _≢_}
-use mathlib.Core.Bool.{Bool, true, false}
-use mathlib.Core.List.{List}
+use Prim.Native.Nat.{ℕ, _<_}
+use mathlib.Core.Path.{_≡_, refl}
+use mathlib.Core.Logic.{_⊎_, inl, inr, _≢_}
 use native.Mathlib.Omega.{arith}
 use lib.Dec.{eqb, ltb, leb}
-use lib.ListN.{length}
 use borrow.Author.Tests.{ltb-true, eqb-true}
 use Rattle.rules.specs.declared.Sizes.{Sizes}
 use Rattle.rules.specs.declared.Task.{Task}
-use Rattle.rules.specs.declared.Entry.{Entry}
-use Rattle.rules.specs.declared.HandleNo.{HandleNo}
 use Rattle.rules.specs.declared.Decision.{Decision}
 use Rattle.rules.specs.declared.Write.{Write}
 use Rattle.rules.specs.declared.Write.the-variants as write
-use Rattle.rules.specs.Words.{pick, _or_, NONE, noHandle, get, put, putIfAbsent, compute, remove, inserts}
+use Rattle.rules.specs.Words.{NONE, noHandle, get, put, putIfAbsent, remove, inserts}
 use Rattle.rules.specs.Tables.{Tables, chunk, entry, mark, task}
-use Rattle.rules.specs.Walks.{locate, find, lowestFree, firstPresent}
+use Rattle.rules.specs.Walks.{locate, lowestFree, firstPresent}
 use Rattle.rules.specs.Stages
-use Rattle.laws.proofs.Tests.{picked, or-cases}
+use Rattle.laws.proofs.EachStage.{each-stage}
+use Rattle.laws.proofs.Tests.{picked}
 use Rattle.facts.specs.Facts.{Limited, Tabled, Holds, holdAt, Tasked}
 use Rattle.facts.proofs.Numbers.{holding}
-use Rattle.handles.specs.Owned.{Row, NamedUnder, Unnamed}
+use Rattle.handles.specs.Owned.{Row}
 use Rattle.handles.proofs.Naming.{Passes}
 use Rattle.handles.proofs.Free.{free-unnamed, free-unheld}
 
@@ -101,29 +97,25 @@ module _ (z : Sizes) (lim : Limited z) (s : Tables) (h : Tabled z (s .directory)
       (λ _. both-on refl refl refl (λ _. eqb-true _ _ (H .swapped)) (record { chunk = ltb-true _ _ (H .chunk); entry = ltb-true _ _ (H .entry) }, inl refl)) (λ _. both-on refl refl refl (λ q. q) tt)
 
   pub decides-pass : Passed (Stages.decide z s t)
-  unfolding Stages.stageDoes
   decides-pass =
-      picked P (eqb m 1 or eqb m 16) (λ _. held-on refl refl refl tt)
-      (λ _. picked P (eqb m 2) (λ _. picked Passed (Stages.hasKey z s t) (λ _. dropped refl refl tt) (λ _. picked Passed (inserts (t .operation)) (λ _. both-on refl refl refl (λ q. q) tt) (λ _. dropped refl refl tt)))
-      (λ _. picked P (eqb m 3) (λ e. reads-pass (eqb-true m 3 e))
-      (λ _. picked P (eqb m 4) (λ _. picked Passed (eqb (mark s (t .old)) 0) (λ _. picked Passed (eqb (t .operation) get) (λ _. dropped refl refl tt) (λ _. picked Passed (eqb (t .operation) putIfAbsent) (λ _. dropped refl refl tt) (λ _. both-on refl refl refl (λ q. q) tt))) (λ _. picked Passed (eqb (t .operation) get) (λ _. dropped refl refl tt) (λ _. both-on refl refl refl (λ q. q) tt)))
-      (λ _. picked P (eqb m 5) (λ _. picked Passed (eqb (mark s (t .old)) 0) (λ _. picked Passed (eqb (t .operation) remove) (λ _. held-on refl refl refl tt) (λ _. picked Passed (eqb (t .operation) put) (λ _. dropped refl refl tt) (λ _. dropped refl refl tt))) (λ _. picked Passed (inserts (t .operation)) (λ _. dropped refl refl tt) (λ _. both-on refl refl refl (λ q. q) tt)))
-      (λ _. picked P (eqb m 6) (λ _. picked Passed (eqb (chunk s (t .chunk) .frozen) 0) (λ _. picked Passed (ltb (chunk s (t .chunk) .used) (z .entries)) (λ _. dropped refl refl tt) (λ _. dropped refl refl tt)) (λ _. dropped refl refl tt))
-      (λ _. picked P (eqb m 7) (λ _. picked Passed (eqb (chunk s (t .chunk) .frozen) 0) (λ _. picked Passed (Stages.hasOther z s t) (λ _. dropped refl refl tt) (λ _. both-on refl refl refl (λ q. q) tt)) (λ _. dropped refl refl tt))
-      (λ _. picked P (eqb m 8) (λ _. takes-pass)
-      (λ _. picked P (eqb m 9) (λ _. both-on refl refl refl (λ q. q) tt)
-      (λ _. picked P (eqb m 10 or eqb m 13 or eqb m 19) (λ e. publishes-pass (unswapped (⊎-map (eqb-true m 10) (λ o. ⊎-map (eqb-true m 13) (eqb-true m 19) (or-cases _ _ o)) (or-cases _ _ e))))
-      (λ _. picked P (eqb m 11) (λ e. swaps-pass (eqb-true m 11 e))
-      (λ _. picked P (eqb m 14 or eqb m 20) (λ e. clears-pass (⊎-map (eqb-true m 14) (eqb-true m 20) (or-cases _ _ e)))
-      (λ _. picked P (eqb m 12) (λ _. picked Passed (Stages.swapFailed z s t) (λ _. dropped refl refl tt) (λ _. dropped refl refl tt))
-      (λ _. picked P (eqb m 15) (λ _. picked Passed (Stages.swapFailed z s t) (λ _. dropped refl refl tt) (λ _. dropped refl refl tt))
-      (λ _. picked P (eqb m 17) (λ _. picked Passed (Stages.hasKey z s t) (λ _. held-on refl refl refl tt) (λ _. dropped refl refl tt))
-      (λ _. picked P (eqb m 18) (λ _. picked Passed (eqb (entry z s (t .chunk) (t .entry) .handle .0) (t .old .0)) (λ _. both-on refl refl refl (λ q. q) tt) (λ _. dropped refl refl tt))
-      (λ _. picked P (eqb m 21) (λ _. dropped refl refl tt)
-      (λ _. picked P (eqb m 22) (λ e. let H = holds-at 22 (eqb-true m 22 e) (omega arith) in picked Passed (leb (t .argument) (t .key)) (λ _. dropped refl refl tt) (λ _. picked Passed (ltb (firstPresent z s (locate z s (t .key)) (t .key) (t .argument) .0) (z .entries)) (λ _. dropped (eqb-true _ _ (H .old)) (eqb-true _ _ (H .new)) tt) (λ _. picked Passed (ltb (chunk s (locate z s (t .key)) .next .0) (z .chunks)) (λ _. dropped (eqb-true _ _ (H .old)) (eqb-true _ _ (H .new)) tt) (λ _. dropped refl refl tt)))) (λ _. both-on refl refl refl (λ q. q) tt))))))))))))))))))
-    where
-      m : ℕ
-      m = t .stage
-
-      P : (Sizes → Tables → Task → Decision) → Type 0
-      P f = Passed (f z s t)
+      each-stage z s t Passed (record {
+        locates = λ _. held-on refl refl refl tt;
+        finds = λ _. picked Passed (Stages.hasKey z s t) (λ _. dropped refl refl tt) (λ _. picked Passed (inserts (t .operation)) (λ _. both-on refl refl refl (λ q. q) tt) (λ _. dropped refl refl tt));
+        reads = reads-pass;
+        checks = λ _. picked Passed (eqb (mark s (t .old)) 0) (λ _. picked Passed (eqb (t .operation) get) (λ _. dropped refl refl tt) (λ _. picked Passed (eqb (t .operation) putIfAbsent) (λ _. dropped refl refl tt) (λ _. both-on refl refl refl (λ q. q) tt))) (λ _. picked Passed (eqb (t .operation) get) (λ _. dropped refl refl tt) (λ _. both-on refl refl refl (λ q. q) tt));
+        applies = λ _. picked Passed (eqb (mark s (t .old)) 0) (λ _. picked Passed (eqb (t .operation) remove) (λ _. held-on refl refl refl tt) (λ _. picked Passed (eqb (t .operation) put) (λ _. dropped refl refl tt) (λ _. dropped refl refl tt))) (λ _. picked Passed (inserts (t .operation)) (λ _. dropped refl refl tt) (λ _. both-on refl refl refl (λ q. q) tt));
+        takesEntry = λ _. picked Passed (eqb (chunk s (t .chunk) .frozen) 0) (λ _. picked Passed (ltb (chunk s (t .chunk) .used) (z .entries)) (λ _. dropped refl refl tt) (λ _. dropped refl refl tt)) (λ _. dropped refl refl tt);
+        links = λ _. picked Passed (eqb (chunk s (t .chunk) .frozen) 0) (λ _. picked Passed (Stages.hasOther z s t) (λ _. dropped refl refl tt) (λ _. both-on refl refl refl (λ q. q) tt)) (λ _. dropped refl refl tt);
+        takesHandle = λ _. takes-pass;
+        writes = λ _. both-on refl refl refl (λ q. q) tt;
+        publishes = λ e. publishes-pass (unswapped e);
+        swaps = swaps-pass;
+        clears = clears-pass;
+        endsInsertion = λ _. picked Passed (Stages.swapFailed z s t) (λ _. dropped refl refl tt) (λ _. dropped refl refl tt);
+        endsAbsent = λ _. picked Passed (Stages.swapFailed z s t) (λ _. dropped refl refl tt) (λ _. dropped refl refl tt);
+        findsAgain = λ _. picked Passed (Stages.hasKey z s t) (λ _. held-on refl refl refl tt) (λ _. dropped refl refl tt);
+        readsAgain = λ _. picked Passed (eqb (entry z s (t .chunk) (t .entry) .handle .0) (t .old .0)) (λ _. both-on refl refl refl (λ q. q) tt) (λ _. dropped refl refl tt);
+        endsRemove = λ _. dropped refl refl tt;
+        scans = λ e. let H = holds-at 22 e (omega arith) in picked Passed (leb (t .argument) (t .key)) (λ _. dropped refl refl tt) (λ _. picked Passed (ltb (firstPresent z s (locate z s (t .key)) (t .key) (t .argument) .0) (z .entries)) (λ _. dropped (eqb-true _ _ (H .old)) (eqb-true _ _ (H .new)) tt) (λ _. picked Passed (ltb (chunk s (locate z s (t .key)) .next .0) (z .chunks)) (λ _. dropped (eqb-true _ _ (H .old)) (eqb-true _ _ (H .new)) tt) (λ _. dropped refl refl tt)));
+        stays = λ _. both-on refl refl refl (λ q. q) tt;
+      })

@@ -1,7 +1,7 @@
 -- What a step's write may be, by the stage, and whether it decides.
 use Prim.Native.Nat.{ℕ, _≤_, _<_}
 use mathlib.Core.Path.{_≡_, refl, sym, _∙_}
-use mathlib.Core.Logic.{_⊎_, inl, inr, ⊎-elim, ⊎-map, _≢_}
+use mathlib.Core.Logic.{_⊎_, inl, inr, ⊎-elim, _≢_}
 use mathlib.Core.Bool.{true, false, false≢true}
 use mathlib.Core.List.{List}
 use native.Mathlib.Omega.{arith}
@@ -12,11 +12,12 @@ use Rattle.rules.specs.declared.Task.{Task}
 use Rattle.rules.specs.declared.Decision.{Decision}
 use Rattle.rules.specs.declared.Write.{Write}
 use Rattle.rules.specs.declared.Write.the-variants as write
-use Rattle.rules.specs.Words.{_and_, _or_, noHandle, get, put, putIfAbsent, upsert, compute, remove, inserts}
+use Rattle.rules.specs.Words.{_or_, noHandle, get, put, putIfAbsent, upsert, compute, remove, inserts}
 use Rattle.rules.specs.Tables.{Tables, chunk, entry, mark, value}
-use Rattle.rules.specs.Walks.{locate, find, lowestFree, firstPresent}
+use Rattle.rules.specs.Walks.{locate, lowestFree, firstPresent}
 use Rattle.rules.specs.Stages
 use Rattle.rules.specs.Map.{Pair, insert, delete, effect, onAbsent, onPresent}
+use Rattle.laws.proofs.EachStage.{each-stage}
 use Rattle.laws.proofs.Tests.{picked, or-cases}
 use Rattle.facts.specs.Facts.{Holds, holdAt, Tasked}
 use Rattle.facts.specs.Simulates.{decides, changeAnswer}
@@ -116,33 +117,26 @@ module _ (z : Sizes) (s : Tables) (t : Task) (r : Tasked z (s .chunks) (s .entri
   clears-at (inl e) = let H = holds-at 14 e (omega arith) in clears-act 14 e refl refl (omega arith, omega arith, omega arith) (record { chunk = ltb-true _ _ (H .chunk); entry = ltb-true _ _ (H .entry) }) (eqb-true _ _ (H .published))
   clears-at (inr e) = let H = holds-at 20 e (omega arith) in clears-act 20 e refl refl (omega arith, omega arith, omega arith) (record { chunk = ltb-true _ _ (H .chunk); entry = ltb-true _ _ (H .entry) }) (eqb-true _ _ (H .published))
 
-  publishes-act : Acts z s t write.Nothing → By (Stages.publishes z s t)
-  publishes-act q = picked By (Stages.mayPublish z s t) (λ _. q) (λ _. picked By (eqb (t .stage) 19) (λ _. q) (λ _. q))
-
   pub decides-act : By (Stages.decide z s t)
-  unfolding Stages.stageDoes
   decides-act =
-      picked P (eqb m 1 or eqb m 16) (λ e. ⊎-elim (λ o. quiet 1 (eqb-true m 1 o) refl refl) (λ o. quiet 16 (eqb-true m 16 o) refl refl) (or-cases _ _ e))
-      (λ _. picked P (eqb m 2) (λ e. let q = quiet 2 (eqb-true m 2 e) refl refl in picked By (Stages.hasKey z s t) (λ _. q) (λ _. picked By (inserts (t .operation)) (λ _. q) (λ _. q)))
-      (λ _. picked P (eqb m 3) (λ e. let q = quiet 3 (eqb-true m 3 e) refl refl in picked By (ltb (entry z s (t .chunk) (t .entry) .handle .0) (z .handles)) (λ _. q) (λ _. picked By (inserts (t .operation)) (λ _. q) (λ _. q)))
-      (λ _. picked P (eqb m 4) (λ e. let q = quiet 4 (eqb-true m 4 e) refl refl in picked By (eqb (mark s (t .old)) 0) (λ _. picked By (eqb (t .operation) get) (λ _. q) (λ _. picked By (eqb (t .operation) putIfAbsent) (λ _. q) (λ _. q))) (λ _. picked By (eqb (t .operation) get) (λ _. q) (λ _. q)))
-      (λ n5. picked P (eqb m 5) (λ e. applies-act (eqb-true m 5 e))
-      (λ n5. picked P (eqb m 6) (λ e. let u = undecided 6 (eqb-true m 6 e) refl refl in picked By (eqb (chunk s (t .chunk) .frozen) 0) (λ _. picked By (ltb (chunk s (t .chunk) .used) (z .entries)) (λ _. Acts.still tt u) (λ _. Acts.still tt u)) (λ _. Acts.still tt u))
-      (λ _. picked P (eqb m 7) (λ e. let u = undecided 7 (eqb-true m 7 e) refl refl in picked By (eqb (chunk s (t .chunk) .frozen) 0) (λ _. picked By (Stages.hasOther z s t) (λ _. Acts.still tt u) (λ _. Acts.still tt u)) (λ _. Acts.still tt u))
-      (λ _. picked P (eqb m 8) (λ e. let u = undecided 8 (eqb-true m 8 e) refl refl in picked By (ltb (lowestFree z s .0) (z .handles)) (λ i. Acts.takes (ltb-true _ _ i) u) (λ _. Acts.still tt u))
-      (λ _. picked P (eqb m 9) (λ e. let H = holds-at 9 (eqb-true m 9 e) (omega arith) in Acts.writes (ltb-true _ _ (H .new)) (eqb-true _ _ (H .swapped)) (undecided 9 (eqb-true m 9 e) refl refl))
-      (λ _. picked P (eqb m 10 or eqb m 13 or eqb m 19) (λ e. publishes-act (⊎-elim (λ o. quiet 10 (eqb-true m 10 o) refl refl) (λ o. ⊎-elim (λ v. quiet 13 (eqb-true m 13 v) refl refl) (λ v. quiet 19 (eqb-true m 19 v) refl refl) (or-cases _ _ o)) (or-cases _ _ e)))
-      (λ _. picked P (eqb m 11) (λ e. swaps-act (eqb-true m 11 e))
-      (λ n11. picked P (eqb m 14 or eqb m 20) (λ e. clears-at (⊎-map (eqb-true m 14) (eqb-true m 20) (or-cases _ _ e)))
-      (λ _. picked P (eqb m 12) (λ _. picked By (Stages.swapFailed z s t) (λ _. Acts.still tt (rw (n11, n5) refl)) (λ _. Acts.still tt (rw (n11, n5) refl)))
-      (λ _. picked P (eqb m 15) (λ _. picked By (Stages.swapFailed z s t) (λ _. Acts.still tt (rw (n11, n5) refl)) (λ _. Acts.still tt (rw (n11, n5) refl)))
-      (λ _. picked P (eqb m 17) (λ _. picked By (Stages.hasKey z s t) (λ _. Acts.still tt (rw (n11, n5) refl)) (λ _. Acts.still tt (rw (n11, n5) refl)))
-      (λ _. picked P (eqb m 18) (λ _. picked By (eqb (entry z s (t .chunk) (t .entry) .handle .0) (t .old .0)) (λ _. Acts.still tt (rw (n11, n5) refl)) (λ _. Acts.still tt (rw (n11, n5) refl)))
-      (λ _. picked P (eqb m 21) (λ _. Acts.still tt (rw (n11, n5) refl))
-      (λ _. picked P (eqb m 22) (λ _. picked By (leb (t .argument) (t .key)) (λ _. Acts.still tt (rw (n11, n5) refl)) (λ _. picked By (ltb (firstPresent z s (locate z s (t .key)) (t .key) (t .argument) .0) (z .entries)) (λ _. Acts.still tt (rw (n11, n5) refl)) (λ _. picked By (ltb (chunk s (locate z s (t .key)) .next .0) (z .chunks)) (λ _. Acts.still tt (rw (n11, n5) refl)) (λ _. Acts.still tt (rw (n11, n5) refl))))) (λ _. Acts.still tt (rw (n11, n5) refl)))))))))))))))))))
-    where
-      m : ℕ
-      m = t .stage
-
-      P : (Sizes → Tables → Task → Decision) → Type 0
-      P f = By (f z s t)
+      each-stage z s t By (record {
+        locates = ⊎-elim (λ e. quiet 1 e refl refl) (λ e. quiet 16 e refl refl);
+        finds = λ e. let q = quiet 2 e refl refl in picked By (Stages.hasKey z s t) (λ _. q) (λ _. picked By (inserts (t .operation)) (λ _. q) (λ _. q));
+        reads = λ e. let q = quiet 3 e refl refl in picked By (ltb (entry z s (t .chunk) (t .entry) .handle .0) (z .handles)) (λ _. q) (λ _. picked By (inserts (t .operation)) (λ _. q) (λ _. q));
+        checks = λ e. let q = quiet 4 e refl refl in picked By (eqb (mark s (t .old)) 0) (λ _. picked By (eqb (t .operation) get) (λ _. q) (λ _. picked By (eqb (t .operation) putIfAbsent) (λ _. q) (λ _. q))) (λ _. picked By (eqb (t .operation) get) (λ _. q) (λ _. q));
+        applies = applies-act;
+        takesEntry = λ e. let u = undecided 6 e refl refl in picked By (eqb (chunk s (t .chunk) .frozen) 0) (λ _. picked By (ltb (chunk s (t .chunk) .used) (z .entries)) (λ _. Acts.still tt u) (λ _. Acts.still tt u)) (λ _. Acts.still tt u);
+        links = λ e. let u = undecided 7 e refl refl in picked By (eqb (chunk s (t .chunk) .frozen) 0) (λ _. picked By (Stages.hasOther z s t) (λ _. Acts.still tt u) (λ _. Acts.still tt u)) (λ _. Acts.still tt u);
+        takesHandle = λ e. let u = undecided 8 e refl refl in picked By (ltb (lowestFree z s .0) (z .handles)) (λ i. Acts.takes (ltb-true _ _ i) u) (λ _. Acts.still tt u);
+        writes = λ e. let H = holds-at 9 e (omega arith) in Acts.writes (ltb-true _ _ (H .new)) (eqb-true _ _ (H .swapped)) (undecided 9 e refl refl);
+        publishes = λ e. let q = ⊎-elim (λ o. quiet 10 o refl refl) (⊎-elim (λ o. quiet 13 o refl refl) (λ o. quiet 19 o refl refl)) e in picked By (Stages.mayPublish z s t) (λ _. q) (λ _. picked By (eqb (t .stage) 19) (λ _. q) (λ _. q));
+        swaps = swaps-act;
+        clears = clears-at;
+        endsInsertion = λ e. let q = quiet 12 e refl refl in picked By (Stages.swapFailed z s t) (λ _. q) (λ _. q);
+        endsAbsent = λ e. let q = quiet 15 e refl refl in picked By (Stages.swapFailed z s t) (λ _. q) (λ _. q);
+        findsAgain = λ e. let q = quiet 17 e refl refl in picked By (Stages.hasKey z s t) (λ _. q) (λ _. q);
+        readsAgain = λ e. let q = quiet 18 e refl refl in picked By (eqb (entry z s (t .chunk) (t .entry) .handle .0) (t .old .0)) (λ _. q) (λ _. q);
+        endsRemove = λ e. quiet 21 e refl refl;
+        scans = λ e. let q = quiet 22 e refl refl in picked By (leb (t .argument) (t .key)) (λ _. q) (λ _. picked By (ltb (firstPresent z s (locate z s (t .key)) (t .key) (t .argument) .0) (z .entries)) (λ _. q) (λ _. picked By (ltb (chunk s (locate z s (t .key)) .next .0) (z .chunks)) (λ _. q) (λ _. q)));
+        stays = λ none. Acts.still tt (rw (none 11 refl, none 5 refl) refl);
+      })
