@@ -1,6 +1,6 @@
 -- The other stages of a task, and so every stage: the write is allowed, and the task's row afterwards has the facts.
-use Prim.Native.Nat.{ℕ, _<_}
-use mathlib.Core.Path.{_≡_, refl, sym, _∙_}
+use Prim.Native.Nat.{ℕ, _+_, _<_}
+use mathlib.Core.Path.{_≡_, refl, sym, _∙_, subst}
 use mathlib.Core.Logic.{_⊎_, inl, inr, _≢_}
 use mathlib.Core.Bool.{true}
 use mathlib.Core.List.{List}
@@ -12,16 +12,18 @@ use Rattle.rules.specs.declared.Sizes.{Sizes}
 use Rattle.rules.specs.declared.Task.{Task}
 use Rattle.rules.specs.declared.Entry.{Entry}
 use Rattle.rules.specs.declared.HandleNo.{HandleNo}
+use Rattle.rules.specs.declared.Report.{Report}
 use Rattle.rules.specs.declared.Write.the-variants as write
-use Rattle.rules.specs.Words.{NONE, noHandle, new}
+use Rattle.rules.specs.Words.{pick, _and_, NONE, noHandle}
 use Rattle.rules.specs.Tables.{Tables, row, chunk, entry}
 use Rattle.rules.specs.Walks.{locate, find, firstPresent}
 use Rattle.rules.specs.Stages
-use Rattle.rules.specs.Shape.{numbers}
+use Rattle.rules.specs.Shape.{numbers, hold, flagAs, fitsOperation}
 use Rattle.laws.proofs.EachStage.{each-stage}
 use Rattle.laws.proofs.Tests.{picked}
 use Rattle.facts.specs.Facts.{Limited, Tabled, Holds, holdAt, EntryHeld, Tasked}
 use Rattle.facts.proofs.Numbers.{number-in, number-none}
+use Rattle.facts.proofs.Operations.{throughout, implies}
 use Rattle.facts.proofs.Going
 use Rattle.facts.proofs.Going.{Fine}
 use Rattle.facts.proofs.Stages as early
@@ -48,49 +50,31 @@ module _ (z : Sizes) (lim : Limited z) (s : Tables) (h : Tabled z (s .directory)
       again : EntryHeld z (s .chunks) entries′ (t .chunk) (t .entry) (t .key) (t .stage) → EntryHeld z (s .chunks) entries′ (t .chunk) (t .entry) (t .key) m
       again y = record { inside = y .inside; used = y .used; keyed = y .keyed; linked = λ _. y .linked (λ q. ne (sym e ∙ q)) }
 
-  one-flag : (w : ℕ) → eqb w 0 ≡ true → leb w 1 ≡ true
-  one-flag w e = rw (eqb-true w 0 e)
+  -- the swap, done or failed, by what the two stages hold
+  swapped : (n o k f w : ℕ) (x : HandleNo) → t .stage ≡ n → n ≢ 0 → n ≢ 7 → throughout 8 (λ op. implies (fitsOperation op n and true) (fitsOperation op (n + 1))) ≡ true → holdAt n ≡ hold 1 1 o k 1 0 → holdAt (n + 1) ≡ hold 1 1 o k 1 f → flagAs f 0 ≡ true → flagAs f w ≡ true → numbers (z .handles) (x .0) ≡ true →
+      Fine z s (pick (Stages.stillNames z s t) (Stages.moves (Stages.goesTo t (n + 1) (t .chunk) (t .entry) (t .old) (t .new) 1 w) (write.Name (t .chunk) (t .entry) x)) (Stages.moves (Stages.keeps t (n + 1)) write.Nothing))
+  swapped n o k f w x e ne n7 fits was is f0 fw num =
+      picked (Fine z s) (Stages.stillNames z s t)
+      (λ _. naming n (n + 1) w x e n7 (omega arith) (ltb-true _ _ (H .chunk)) (ltb-true _ _ (H .entry)) num (next 1 w refl fw))
+      (λ _. Going.going z lim s h t r (n + 1) (t .chunk) (t .entry) (t .old) (t .new) (t .published) (t .swapped) (omega arith) (next (t .published) (t .swapped) (H .published) (rw (eqb-true (t .swapped) 0 (H .swapped)) f0)) (r .chunk-of-key) (Going.entry-at z lim s h t r n e n7 (n + 1)))
+    where
+      H : Holds z t (hold 1 1 o k 1 0)
+      H = subst (Holds z t) was (Going.holds-at z lim s h t r n e ne)
+
+      next : (p v : ℕ) → flagAs 1 p ≡ true → flagAs f v ≡ true → Holds z (Stages.goesTo t (n + 1) (t .chunk) (t .entry) (t .old) (t .new) p v) (holdAt (n + 1))
+      next p v i j = subst (Holds z (Stages.goesTo t (n + 1) (t .chunk) (t .entry) (t .old) (t .new) p v)) (sym is) (record { fits = Going.fit z lim s h t r n (n + 1) (λ op. true) fits e ne refl; function = H .function; chunk = H .chunk; entry = H .entry; old = H .old; new = H .new; published = i; swapped = j })
 
   swaps-fine : t .stage ≡ 11 → Fine z s (Stages.swaps z s t (t .new))
-  swaps-fine e =
-      let H = Going.holds-at z lim s h t r 11 e (omega arith) in
-      rw e (picked (Fine z s) (Stages.stillNames z s t)
-      (λ _. naming 11 12 1 (t .new) e (omega arith) (omega arith) (ltb-true _ _ (H .chunk)) (ltb-true _ _ (H .entry)) (number-in (z .handles) (t .new .0) (ltb-true (t .new .0) (z .handles) (H .new)))
-      (record { fits = Going.fit z lim s h t r 11 12 (λ op. true) refl e (omega arith) refl; function = H .function; chunk = H .chunk; entry = H .entry; old = H .old; new = H .new; published = refl; swapped = refl }))
-      (λ _. Going.going z lim s h t r 12 (t .chunk) (t .entry) (t .old) (t .new) (t .published) (t .swapped) (omega arith)
-      (record { fits = Going.fit z lim s h t r 11 12 (λ op. true) refl e (omega arith) refl; function = H .function; chunk = H .chunk; entry = H .entry; old = H .old; new = H .new; published = H .published; swapped = one-flag (t .swapped) (H .swapped) })
-      (r .chunk-of-key) (Going.entry-at z lim s h t r 11 e (omega arith) 12)))
+  swaps-fine e = rw e (swapped 11 2 1 2 1 (t .new) e (omega arith) (omega arith) refl refl refl refl refl (number-in (z .handles) (t .new .0) (ltb-true (t .new .0) (z .handles) (Going.holds-at z lim s h t r 11 e (omega arith) .new))))
 
   clears-fine : (t .stage ≡ 14) ⊎ (t .stage ≡ 20) → Fine z s (Stages.swaps z s t noHandle)
-  clears-fine (inl e) =
-      let H = Going.holds-at z lim s h t r 14 e (omega arith) in
-      rw e (picked (Fine z s) (Stages.stillNames z s t)
-      (λ _. naming 14 15 1 noHandle e (omega arith) (omega arith) (ltb-true _ _ (H .chunk)) (ltb-true _ _ (H .entry)) (number-none (z .handles))
-      (record { fits = Going.fit z lim s h t r 14 15 (λ op. true) refl e (omega arith) refl; function = H .function; chunk = H .chunk; entry = H .entry; old = H .old; new = H .new; published = refl; swapped = refl }))
-      (λ _. Going.going z lim s h t r 15 (t .chunk) (t .entry) (t .old) (t .new) (t .published) (t .swapped) (omega arith)
-      (record { fits = Going.fit z lim s h t r 14 15 (λ op. true) refl e (omega arith) refl; function = H .function; chunk = H .chunk; entry = H .entry; old = H .old; new = H .new; published = H .published; swapped = one-flag (t .swapped) (H .swapped) })
-      (r .chunk-of-key) (Going.entry-at z lim s h t r 14 e (omega arith) 15)))
-  clears-fine (inr e) =
-      let H = Going.holds-at z lim s h t r 20 e (omega arith) in
-      rw e (picked (Fine z s) (Stages.stillNames z s t)
-      (λ _. naming 20 21 0 noHandle e (omega arith) (omega arith) (ltb-true _ _ (H .chunk)) (ltb-true _ _ (H .entry)) (number-none (z .handles))
-      (record { fits = Going.fit z lim s h t r 20 21 (λ op. true) refl e (omega arith) refl; function = H .function; chunk = H .chunk; entry = H .entry; old = H .old; new = H .new; published = refl; swapped = refl }))
-      (λ _. Going.going z lim s h t r 21 (t .chunk) (t .entry) (t .old) (t .new) (t .published) (t .swapped) (omega arith)
-      (record { fits = Going.fit z lim s h t r 20 21 (λ op. true) refl e (omega arith) refl; function = H .function; chunk = H .chunk; entry = H .entry; old = H .old; new = H .new; published = H .published; swapped = H .swapped })
-      (r .chunk-of-key) (Going.entry-at z lim s h t r 20 e (omega arith) 21)))
+  clears-fine (inl e) = rw e (swapped 14 1 0 2 1 noHandle e (omega arith) (omega arith) refl refl refl refl refl (number-none (z .handles)))
+  clears-fine (inr e) = rw e (swapped 20 1 0 0 0 noHandle e (omega arith) (omega arith) refl refl refl refl refl (number-none (z .handles)))
 
   -- ---- 12, 15 unpublish
-  ends-insertion-fine : t .stage ≡ 12 → Fine z s (Stages.endsInsertion z s t)
-  ends-insertion-fine e =
-      picked (Fine z s) (Stages.swapFailed z s t)
-      (λ _. Going.restarted z lim s h t r _ (rw e (omega arith)) (Going.fit z lim s h t r 12 1 (λ op. true) refl e (omega arith) refl))
-      (λ _. Going.finished z lim s h t r _ _ tt)
-
-  ends-absent-fine : t .stage ≡ 15 → Fine z s (Stages.endsAbsent z s t)
-  ends-absent-fine e =
-      picked (Fine z s) (Stages.swapFailed z s t)
-      (λ _. Going.restarted z lim s h t r _ (rw e (omega arith)) (Going.fit z lim s h t r 15 1 (λ op. true) refl e (omega arith) refl))
-      (λ _. Going.finished z lim s h t r _ _ tt)
+  ended : (n : ℕ) (why answer : Report) → t .stage ≡ n → n ≢ 0 → throughout 8 (λ op. implies (fitsOperation op n and true) (fitsOperation op 1)) ≡ true → Fine z s (pick (Stages.swapFailed z s t) (Stages.restarts t why) (Stages.finishes write.Nothing answer))
+  ended n why answer e ne fits =
+      picked (Fine z s) (Stages.swapFailed z s t) (λ _. Going.restarted z lim s h t r _ (rw e ne) (Going.fit z lim s h t r n 1 (λ op. true) fits e ne refl)) (λ _. Going.finished z lim s h t r _ _ tt)
 
   -- ---- 17, 18 find and read again
   finds-again-fine : t .stage ≡ 17 → Fine z s (Stages.findsAgain z s t)
@@ -150,8 +134,8 @@ module _ (z : Sizes) (lim : Limited z) (s : Tables) (h : Tabled z (s .directory)
         publishes = early.publishes-fine z lim s h t r;
         swaps = swaps-fine;
         clears = clears-fine;
-        endsInsertion = ends-insertion-fine;
-        endsAbsent = ends-absent-fine;
+        endsInsertion = λ e. ended 12 _ _ e (omega arith) refl;
+        endsAbsent = λ e. ended 15 _ _ e (omega arith) refl;
         findsAgain = finds-again-fine;
         readsAgain = reads-again-fine;
         endsRemove = λ e. Going.finished z lim s h t r _ _ tt;

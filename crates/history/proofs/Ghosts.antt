@@ -15,7 +15,7 @@ use Rattle.rules.specs.declared.Task.{Task}
 use Rattle.rules.specs.declared.Decision.{Decision}
 use Rattle.rules.specs.declared.Report.{Report}
 use Rattle.rules.specs.Words.{pick, _or_, get, upsert, compute, remove, scan, usesFunction}
-use Rattle.rules.specs.Tables.{Tables, task}
+use Rattle.rules.specs.Tables.{Tables}
 use Rattle.rules.specs.Stages
 use Rattle.rules.specs.Rebalance.{Outcome}
 use Rattle.rules.specs.Calls.{Call, started}

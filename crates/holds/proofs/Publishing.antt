@@ -13,7 +13,7 @@ use Rattle.rules.specs.declared.Decision.{Decision}
 use Rattle.rules.specs.declared.Write.{Write}
 use Rattle.rules.specs.declared.Write.the-variants as write
 use Rattle.rules.specs.Words.{noHandle, get, put, putIfAbsent, remove, inserts}
-use Rattle.rules.specs.Tables.{Tables, chunk, entry, mark, task}
+use Rattle.rules.specs.Tables.{Tables, chunk, entry, mark}
 use Rattle.rules.specs.Walks.{locate, linked, lowestFree, firstPresent}
 use Rattle.rules.specs.Stages
 use Rattle.laws.proofs.EachStage.{each-stage}
