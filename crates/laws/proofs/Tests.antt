@@ -9,7 +9,12 @@ pub picked {ℓ κ} : {A : Type ℓ} (P : A → Type κ) (b : Bool) {x y : A} �
 picked P true f g = f refl
 picked P false f g = g refl
 
--- the same, keeping the test beside it
+-- what is made of the picked one is picked of what is made of either
+pub pick-of {ℓ κ} : {A : Type ℓ} {B : Type κ} (f : A → B) (b : Bool) (x y : A) → f (pick b x y) ≡ pick b (f x) (f y)
+pick-of f true x y = refl
+pick-of f false x y = refl
+
+-- by how the test comes out
 pub by-test {κ} : {P : Type κ} (b : Bool) → (b ≡ true → P) → (b ≡ false → P) → P
 by-test true f g = f refl
 by-test false f g = g refl
