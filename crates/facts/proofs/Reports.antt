@@ -15,8 +15,7 @@ use Rattle.rules.specs.Stages
 use Rattle.rules.specs.Rebalance.{Outcome, rebalanceDoes}
 use Rattle.rules.specs.Calls.{Call, does}
 use Rattle.rules.specs.Calls.Call.{start, step, begin, rebalance}
-use Rattle.rules.proofs.Tests.{pick-same}
-use Rattle.laws.proofs.Tests.{pick-of}
+use Rattle.laws.proofs.Tests.{pick-of, pick-same}
 
 -- the report is refusal 10
 abbrev ten : Report → Bool

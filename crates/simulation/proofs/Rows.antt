@@ -2,7 +2,7 @@
 use Prim.Native.Nat.{ℕ, _*_, _<_}
 use mathlib.Core.Path.{_≡_, refl, sym, ap, _∙_}
 use mathlib.Core.Logic.{_⊎_, inl, inr, ⊎-elim, ⊎-map, _≢_}
-use mathlib.Core.Bool.{true}
+use mathlib.Core.Bool.{true, false≢true}
 use mathlib.Core.List.{List}
 use native.Mathlib.Nat.{le-trans}
 use native.Mathlib.Decide.{ℕ-discrete}
@@ -31,7 +31,7 @@ use Rattle.handles.specs.Owned.{Row, NamedUnder}
 use Rattle.handles.proofs.Free.{free-unnamed}
 use Rattle.handles.proofs.Owning.{OwnedBy}
 use Rattle.holds.specs.Marked.{Marked}
-use Rattle.simulation.proofs.Acts.{Still, Swaps, Acts}
+use Rattle.simulation.proofs.Acts.{stills, Swaps, Acts}
 
 -- the second row names what the first names, under the same key
 abbrev pub RowKept : Sizes → Entry → Entry → Type 0
@@ -89,7 +89,7 @@ module _ (z : Sizes) (lim : Limited z) (s : Tables) (kept : Kept z s) (ts : List
             empty : entry z s c e ≡ emptyEntry
             empty = kept .tables .lists c (at .chunk) .slot e (at .entry) .empty (omega (arith, ap (λ (e : EntryNo). e .0) q, ap (λ (c : ChunkNo). chunk s c .used) p))
 
-    still-row : (w : Write) → Still w → Allowed z (s .chunks) (s .entries) w → Kept-as (entry z (after w) c e)
+    still-row : (w : Write) → stills w ≡ true → Allowed z (s .chunks) (s .entries) w → Kept-as (entry z (after w) c e)
     still-row write.Nothing v a = as-it-was
     still-row (write.Slot d k) v a = slot-row d k (a .0) (a .2)
     still-row (write.Link d f before) v a =
@@ -102,19 +102,19 @@ module _ (z : Sizes) (lim : Limited z) (s : Tables) (kept : Kept z s) (ts : List
 
         to : Row z d f
         to = record { chunk = w .numbered; entry = le-trans (w .used) (kept .tables .lists d (w .numbered) .row .used) }
-    still-row (write.Fresh h) v a = absurd v
-    still-row (write.Store h x) v a = absurd v
-    still-row (write.Delete h) v a = absurd v
-    still-row (write.Name d f h) v a = absurd v
+    still-row (write.Fresh h) v a = absurd (false≢true v)
+    still-row (write.Store h x) v a = absurd (false≢true v)
+    still-row (write.Delete h) v a = absurd (false≢true v)
+    still-row (write.Name d f h) v a = absurd (false≢true v)
 
-  still-records : (w : Write) → Still w → (after w .marks ≡ s .marks) × (after w .values ≡ s .values)
+  still-records : (w : Write) → stills w ≡ true → (after w .marks ≡ s .marks) × (after w .values ≡ s .values)
   still-records write.Nothing v = (refl, refl)
   still-records (write.Slot d k) v = (refl, refl)
   still-records (write.Link d f before) v = picked (λ (x : Tables). (x .marks ≡ s .marks) × (x .values ≡ s .values)) (ltb (before .0) (z .entries)) (λ _. (refl, refl)) (λ _. (refl, refl))
-  still-records (write.Fresh h) v = absurd v
-  still-records (write.Store h x) v = absurd v
-  still-records (write.Delete h) v = absurd v
-  still-records (write.Name d f h) v = absurd v
+  still-records (write.Fresh h) v = absurd (false≢true v)
+  still-records (write.Store h x) v = absurd (false≢true v)
+  still-records (write.Delete h) v = absurd (false≢true v)
+  still-records (write.Name d f h) v = absurd (false≢true v)
 
   -- ---- a step of a task
   module _ (n : ℕ) where
