@@ -2,12 +2,14 @@
 use Prim.Native.Nat.{ℕ, _<_}
 use mathlib.Core.Path.{_≡_, sym, ap, _∙_}
 use mathlib.Core.Logic.{_⊎_, inl, inr, ⊎-elim, _≢_}
+use mathlib.Core.Bool.{true}
 use mathlib.Core.List.{List}
 use native.Mathlib.Decide.{ℕ-discrete, decLt}
 use native.Mathlib.Omega.{arith}
-use lib.Dec.{ltb}
+use lib.Dec.{eqb, ltb}
 use lib.ListN.{length, getD, set}
 use lib.Seq.{getD-set-same, getD-set-other, set-out}
+use borrow.Author.Tests.{eqb-true}
 use Rattle.rules.specs.declared.Sizes.{Sizes}
 use Rattle.rules.specs.declared.Task.{Task}
 use Rattle.rules.specs.declared.ChunkNo.{ChunkNo}
@@ -19,7 +21,7 @@ use Rattle.rules.specs.declared.Write.the-variants as write
 use Rattle.rules.specs.Words.{NONE, handleNo, live}
 use Rattle.rules.specs.Tables.{Tables, chunk, entry, task, withTasks}
 use Rattle.rules.specs.Stages
-use Rattle.laws.proofs.Tests.{picked}
+use Rattle.laws.proofs.Tests.{picked, and-left, and-right}
 use Rattle.facts.specs.Facts.{Limited, Kept}
 use Rattle.facts.specs.Reached.{Reached}
 use Rattle.facts.proofs.Reaching.{reached-kept}
@@ -31,7 +33,7 @@ use Rattle.holds.proofs.Unlinked.{reached-unlinked}
 use Rattle.simulation.specs.Named.{LiveNamed}
 use Rattle.simulation.proofs.Rows.{RowKept, Renamed, row-step}
 use Rattle.simulation.proofs.Living
-use Rattle.removers.proofs.Late.{Sets}
+use Rattle.removers.proofs.Late.{sets}
 
 -- ---- the handles' records
 -- a mark of 1 was 1, or was written
@@ -39,7 +41,7 @@ mark-of : (l : List ℕ) (i v j : ℕ) → getD (set l i v) j 0 ≡ 1 → (getD 
 mark-of l i v j m = elim (ℕ-discrete j i) [ yes e ↦ elim (decLt i (length l)) [ yes b ↦ inr (e, sym (getD-set-same l i v 0 b) ∙ ap (λ (n : ℕ). getD (set l i v) n 0) (sym e) ∙ m) | no out ↦ inl (rw (set-out l i v (omega arith)) at m) ] | no ne ↦ inl (sym (getD-set-other l i j v 0 ne) ∙ m) ]
 
 -- a deleted handle was deleted, or the write deletes it and its task holds it at 16
-pub mark-then : (z : Sizes) (s : Tables) (y : Task) (w : Write) → Sets y w → (h : ℕ) → getD (Stages.apply z s w .marks) h 0 ≡ 1 → (getD (s .marks) h 0 ≡ 1) ⊎ ((y .stage ≡ 16) × (y .old .0 ≡ h))
+pub mark-then : (z : Sizes) (s : Tables) (y : Task) (w : Write) → sets y w ≡ true → (h : ℕ) → getD (Stages.apply z s w .marks) h 0 ≡ 1 → (getD (s .marks) h 0 ≡ 1) ⊎ ((y .stage ≡ 16) × (y .old .0 ≡ h))
 mark-then z s y write.Nothing u h m = inl m
 mark-then z s y (write.Slot c k) u h m = inl m
 mark-then z s y (write.Link c e before) u h m = inl (picked (λ (x : Tables). getD (x .marks) h 0 ≡ 1 → getD (s .marks) h 0 ≡ 1) (ltb (before .0) (z .entries)) (λ _ q. q) (λ _ q. q) m)
@@ -48,7 +50,7 @@ mark-then z s y (write.Fresh g) u h m = ⊎-elim inl (λ e. absurd (never (e .1)
     never : _≡_ {A = ℕ} 0 1 → ⊥
     never e = omega arith
 mark-then z s y (write.Store g v) u h m = inl m
-mark-then z s y (write.Delete g) u h m = ⊎-elim inl (λ e. inr (u .0, ap (λ (h : HandleNo). h .0) (u .1) ∙ sym (e .0))) (mark-of (s .marks) (g .0) 1 h m)
+mark-then z s y (write.Delete g) u h m = ⊎-elim inl (λ e. inr (eqb-true _ _ (and-left _ _ u), eqb-true _ _ (and-right (eqb (y .stage) 16) _ u) ∙ sym (e .0))) (mark-of (s .marks) (g .0) 1 h m)
 mark-then z s y (write.Name c e g) u h m = inl m
 
 -- ---- the rows
