@@ -1,6 +1,6 @@
--- What holds of each stage's rule holds of what a step decides.
+-- What holds of each stage's rule, or of that of the task's stage, holds of what a step decides.
 use Prim.Native.Nat.{ℕ}
-use mathlib.Core.Path.{_≡_}
+use mathlib.Core.Path.{_≡_, sym, subst}
 use mathlib.Core.Logic.{⊎-map}
 use mathlib.Core.Bool.{true, false, false≢true}
 use lib.Dec.{eqb, leb}
@@ -45,3 +45,7 @@ module _ (z : Sizes) (s : Tables) (t : Task) (P : Decision → Type 0) where
 
       Q : (Sizes → Tables → Task → Decision) → Type 0
       Q f = P (f z s t)
+
+  -- what the stage of that number decides, of a task that stands there
+  pub at-stage : (m : ℕ) → t .stage ≡ m → P (Stages.stageDoes m z s t) → P (Stages.decide z s t)
+  at-stage m e = subst (λ (n : ℕ). P (Stages.stageDoes n z s t)) (sym e)

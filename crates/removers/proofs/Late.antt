@@ -1,6 +1,6 @@
 -- Which decisions leave a task past 16, and which delete.
 use Prim.Native.Nat.{ℕ, _+_, _≤_}
-use mathlib.Core.Path.{_≡_, refl, ap}
+use mathlib.Core.Path.{_≡_, refl}
 use mathlib.Core.Logic.{_≢_}
 use mathlib.Core.Bool.{Bool, true}
 use native.Mathlib.Omega.{arith}
@@ -89,7 +89,3 @@ module _ (z : Sizes) (s : Tables) (t : Task) where
         scans = λ e. picked Late (leb (t .argument) (t .key)) (λ _. low _ refl) (λ _. picked Late (ltb (firstPresent z s (locate z s (t .key)) (t .key) (t .argument) .0) (z .entries)) (λ _. stayed (rw e (omega arith)) refl refl) (λ _. picked Late (ltb (chunk s (locate z s (t .key)) .next .0) (z .chunks)) (λ _. stayed (rw e (omega arith)) refl refl) (λ _. low _ refl)));
         stays = λ none. stayed (eqb-false _ _ (none 21 refl)) refl refl;
       })
-
-  -- what the stage of that number decides
-  pub does-at : (m : ℕ) → t .stage ≡ m → Stages.decide z s t ≡ Stages.stageDoes m z s t
-  does-at m e = ap (λ (n : ℕ). Stages.stageDoes n z s t) e
