@@ -80,11 +80,8 @@ module _ (z : Sizes) (lim : Limited z) (s : Tables) (h : Tabled z (s .directory)
   swaps-pass e =
       let H = holds-at 11 e (omega arith) in
       rw e (picked Passed (Stages.stillNames z s t)
-      (λ _. both-on refl refl refl (λ q. absurd (one q)) (record { chunk = ltb-true _ _ (H .chunk); entry = ltb-true _ _ (H .entry) }, inr (refl, ltb-true _ _ (H .new), eqb-true _ _ (H .swapped), refl)))
+      (λ _. both-on refl refl refl (λ q. omega arith) (record { chunk = ltb-true _ _ (H .chunk); entry = ltb-true _ _ (H .entry) }, inr (refl, ltb-true _ _ (H .new), eqb-true _ _ (H .swapped), refl)))
       (λ _. both-on refl refl refl (λ q. q) tt))
-    where
-      one : _≡_ {A = ℕ} 1 0 → ⊥
-      one q = omega arith
 
   clears-pass : (t .stage ≡ 14) ⊎ (t .stage ≡ 20) → Passed (Stages.swaps z s t noHandle)
   clears-pass (inl e) =

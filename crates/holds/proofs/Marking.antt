@@ -84,26 +84,20 @@ module _ (z : Sizes) (lim : Limited z) (s : Tables) (kept : Kept z s) (marked : 
       let H = holds-at 5 e (omega arith) in
       picked Marks (eqb (mark s (t .old)) 0)
       (λ _. picked Marks (eqb (t .operation) remove)
-      (λ _. record { old = λ ts _ _ b. getD-set-same (s .marks) (t .old .0) 1 0 (rw (kept .marks-sized) b); new = λ ts b. absurd (out b); touches = refl })
+      (λ _. record { old = λ ts _ _ b. getD-set-same (s .marks) (t .old .0) 1 0 (rw (kept .marks-sized) b); new = λ ts b. absurd (never refl b); touches = refl })
       (λ _. picked Marks (eqb (t .operation) put) (λ _. gone refl refl (inl refl)) (λ _. gone refl refl (inl refl))))
       (λ d. picked Marks (inserts (t .operation)) (λ _. gone refl refl tt) (λ _. keeps-deleted 5 13 e (omega arith) refl d))
-    where
-      out : NONE < z .handles → ⊥
-      out b = omega (arith, lim .handles)
 
   takes-marks : t .stage ≡ 8 → Marks (Stages.takesHandle z s t)
   takes-marks e =
       picked Marks (ltb (lowestFree z s .0) (z .handles))
       (λ i. record {
         old = λ ts x y b. getD-set-other (s .marks) (lowestFree z s .0) (t .old .0) 0 0 (apart i n .0) ∙ old-on 8 e (omega arith) (omega arith) (Stages.goesTo t 9 (t .chunk) (t .entry) (t .old) (lowestFree z s) 0 0) refl x y b;
-        new = λ ts b w. (getD-set-same (s .marks) (lowestFree z s .0) 0 0 (rw (kept .marks-sized) b), λ le. absurd (nine le));
+        new = λ ts b w. (getD-set-same (s .marks) (lowestFree z s .0) 0 0 (rw (kept .marks-sized) b), λ le. omega arith);
         touches = apart i;
       })
       (λ _. gone refl refl tt)
     where
-      nine : 10 ≤ 9 → ⊥
-      nine le = omega arith
-
       apart : ltb (lowestFree z s .0) (z .handles) ≡ true → (m : ℕ) → (task s m .old .0 ≢ lowestFree z s .0) × (task s m .new .0 ≢ lowestFree z s .0)
       apart i = free-unheld z (lim .handles) s (kept .tables .entries-sized) (ltb-true _ _ i)
 
@@ -136,7 +130,7 @@ module _ (z : Sizes) (lim : Limited z) (s : Tables) (kept : Kept z s) (marked : 
       each-stage z s t Marks (record {
         locates = locates-marks;
         finds = λ e. picked Marks (Stages.hasKey z s t) (λ _. gone refl refl tt) (λ _. picked Marks (inserts (t .operation)) (λ _. keeps-on 2 6 e (omega arith) (omega arith) (omega arith)) (λ _. gone refl refl tt));
-        reads = λ e. picked Marks (ltb (entry z s (t .chunk) (t .entry) .handle .0) (z .handles)) (λ _. record { old = λ ts x. absurd (x refl); new = λ ts b. absurd (out b); touches = tt }) (λ _. picked Marks (inserts (t .operation)) (λ _. keeps-on 3 8 e (omega arith) (omega arith) (omega arith)) (λ _. gone refl refl tt));
+        reads = λ e. picked Marks (ltb (entry z s (t .chunk) (t .entry) .handle .0) (z .handles)) (λ _. record { old = λ ts x. absurd (x refl); new = λ ts b. absurd (never refl b); touches = tt }) (λ _. picked Marks (inserts (t .operation)) (λ _. keeps-on 3 8 e (omega arith) (omega arith) (omega arith)) (λ _. gone refl refl tt));
         checks = λ e. picked Marks (eqb (mark s (t .old)) 0) (λ _. picked Marks (eqb (t .operation) get) (λ _. gone refl refl tt) (λ _. picked Marks (eqb (t .operation) putIfAbsent) (λ _. gone refl refl tt) (λ _. record { old = λ ts _ y. absurd (y refl); new = λ ts. none-new (Stages.keeps t 5) (eqb-true _ _ (holds-at 4 e (omega arith) .new)); touches = tt }))) (λ d. picked Marks (eqb (t .operation) get) (λ _. gone refl refl tt) (λ _. keeps-deleted 4 (pick (inserts (t .operation)) 8 13) e (omega arith) refl d));
         applies = applies-marks;
         takesEntry = λ _. picked Marks (eqb (chunk s (t .chunk) .frozen) 0) (λ _. picked Marks (ltb (chunk s (t .chunk) .used) (z .entries)) (λ _. gone refl refl tt) (λ _. gone refl refl tt)) (λ _. gone refl refl tt);
@@ -148,12 +142,9 @@ module _ (z : Sizes) (lim : Limited z) (s : Tables) (kept : Kept z s) (marked : 
         clears = ⊎-elim (λ o. swaps-marks 14 noHandle o (omega arith) refl) (λ o. swaps-marks 20 noHandle o (omega arith) refl);
         endsInsertion = λ _. picked Marks (Stages.swapFailed z s t) (λ _. gone refl refl tt) (λ _. gone refl refl tt);
         endsAbsent = λ _. picked Marks (Stages.swapFailed z s t) (λ _. gone refl refl tt) (λ _. gone refl refl tt);
-        findsAgain = λ e. picked Marks (Stages.hasKey z s t) (λ _. record { old = λ ts. old-on 17 e (omega arith) (omega arith) (Stages.goesTo t 18 (t .chunk) (find z s (t .chunk) (t .key)) (t .old) noHandle 0 0) refl; new = λ ts b. absurd (out b); touches = tt }) (λ _. gone refl refl tt);
+        findsAgain = λ e. picked Marks (Stages.hasKey z s t) (λ _. record { old = λ ts. old-on 17 e (omega arith) (omega arith) (Stages.goesTo t 18 (t .chunk) (find z s (t .chunk) (t .key)) (t .old) noHandle 0 0) refl; new = λ ts b. absurd (never refl b); touches = tt }) (λ _. gone refl refl tt);
         readsAgain = λ e. picked Marks (eqb (entry z s (t .chunk) (t .entry) .handle .0) (t .old .0)) (λ _. keeps-on 18 19 e (omega arith) (omega arith) (omega arith)) (λ _. gone refl refl tt);
         endsRemove = λ _. gone refl refl tt;
         scans = λ e. let H = holds-at 22 e (omega arith) in picked Marks (leb (t .argument) (t .key)) (λ _. gone refl refl tt) (λ _. picked Marks (ltb (firstPresent z s (locate z s (t .key)) (t .key) (t .argument) .0) (z .entries)) (λ _. gone (eqb-true _ _ (H .old)) (eqb-true _ _ (H .new)) tt) (λ _. picked Marks (ltb (chunk s (locate z s (t .key)) .next .0) (z .chunks)) (λ _. gone (eqb-true _ _ (H .old)) (eqb-true _ _ (H .new)) tt) (λ _. gone refl refl tt)));
         stays = λ _. record { old = λ ts. marked .old-deleted n; new = λ ts. marked .new-written n; touches = tt };
       })
-    where
-      out : NONE < z .handles → ⊥
-      out b = omega (arith, lim .handles)

@@ -5,7 +5,7 @@ use mathlib.Core.Logic.{_⊎_, inl, inr, _≢_}
 use mathlib.Core.List.{List·Memᴰ}
 use native.Mathlib.Omega.{arith}
 use lib.Dec.{eqb, ltb, leb}
-use borrow.Author.Tests.{ltb-true, eqb-true}
+use borrow.Author.Tests.{ltb-true, eqb-true, eqb-false}
 use Rattle.rules.specs.declared.Sizes.{Sizes}
 use Rattle.rules.specs.declared.Task.{Task}
 use Rattle.rules.specs.declared.HandleNo.{HandleNo}
@@ -40,11 +40,8 @@ module _ (z : Sizes) (s : Tables) (t : Task) (r : Tasked z (s .chunks) (s .entri
   holds-at : (m : ℕ) → t .stage ≡ m → m ≢ 0 → Holds z t (holdAt m)
   holds-at = holding z (s .chunks) (s .entries) t r
 
-  zero-one : _≡_ {A = ℕ} 0 1 → ⊥
-  zero-one q = omega arith
-
   quiet : {x : Decision} → x .task .published ≡ 0 → NamesLinked z s (x .write) → Publishes x
-  quiet e w = record { publishes = λ q. absurd (zero-one (sym e ∙ q)); names = w }
+  quiet e w = record { publishes = λ q. absurd (eqb-false 0 1 refl (sym e ∙ q)); names = w }
 
   still : {x : Decision} → x .task .published ≡ t .published → x .task .chunk ≡ t .chunk → NamesLinked z s (x .write) → Publishes x
   still e c w = record { publishes = λ q. (c, inl (sym e ∙ q)); names = w }

@@ -50,10 +50,7 @@ module _ (z : Sizes) (s : Tables) (t : Task) where
     pub sets : sets (x .task) (x .write) ≡ true
 
   low : (x : Decision) → early x ≡ true → Late x
-  low x e = record { from = λ a _. absurd (over a (leb-true _ _ (and-left _ _ e))); sets = and-right (leb (x .task .stage) 16) _ e }
-    where
-      over : 17 ≤ x .task .stage → x .task .stage ≤ 16 → ⊥
-      over a b = omega arith
+  low x e = let le : x .task .stage ≤ 16 = leb-true _ _ (and-left _ _ e) in record { from = λ a _. (omega arith, omega arith); sets = and-right (leb (x .task .stage) 16) _ e }
 
   -- the row is one stage on; of a task that was there already
   next : {x : Decision} → x .task .stage ≡ t .stage + 1 → sets (x .task) (x .write) ≡ true → Late x

@@ -1,6 +1,6 @@
 -- What a step leaves of the rows that name a handle, and of the live ones above all.
 use Prim.Native.Nat.{ℕ, _<_}
-use mathlib.Core.Path.{_≡_, sym, ap, _∙_}
+use mathlib.Core.Path.{_≡_, refl, sym, ap, _∙_}
 use mathlib.Core.Logic.{_⊎_, inl, inr, ⊎-elim, _≢_}
 use mathlib.Core.Bool.{true}
 use mathlib.Core.List.{List}
@@ -9,7 +9,7 @@ use native.Mathlib.Omega.{arith}
 use lib.Dec.{eqb, ltb}
 use lib.ListN.{length, getD, set}
 use lib.Seq.{getD-set-same, getD-set-other, set-out}
-use borrow.Author.Tests.{eqb-true}
+use borrow.Author.Tests.{eqb-true, eqb-false}
 use Rattle.rules.specs.declared.Sizes.{Sizes}
 use Rattle.rules.specs.declared.Task.{Task}
 use Rattle.rules.specs.declared.ChunkNo.{ChunkNo}
@@ -45,10 +45,7 @@ pub mark-then : (z : Sizes) (s : Tables) (y : Task) (w : Write) → sets y w ≡
 mark-then z s y write.Nothing u h m = inl m
 mark-then z s y (write.Slot c k) u h m = inl m
 mark-then z s y (write.Link c e before) u h m = inl (picked (λ (x : Tables). getD (x .marks) h 0 ≡ 1 → getD (s .marks) h 0 ≡ 1) (ltb (before .0) (z .entries)) (λ _ q. q) (λ _ q. q) m)
-mark-then z s y (write.Fresh g) u h m = ⊎-elim inl (λ e. absurd (never (e .1))) (mark-of (s .marks) (g .0) 0 h m)
-  where
-    never : _≡_ {A = ℕ} 0 1 → ⊥
-    never e = omega arith
+mark-then z s y (write.Fresh g) u h m = ⊎-elim inl (λ e. absurd (eqb-false 0 1 refl (e .1))) (mark-of (s .marks) (g .0) 0 h m)
 mark-then z s y (write.Store g v) u h m = inl m
 mark-then z s y (write.Delete g) u h m = ⊎-elim inl (λ e. inr (eqb-true _ _ (and-left _ _ u), eqb-true _ _ (and-right (eqb (y .stage) 16) _ u) ∙ sym (e .0))) (mark-of (s .marks) (g .0) 1 h m)
 mark-then z s y (write.Name c e g) u h m = inl m
@@ -83,10 +80,7 @@ module _ (z : Sizes) (lim : Limited z) (s : Tables) (r : Reached z s) (n : ℕ) 
   -- ---- a handle that is not the one that the step may swap in
   module _ (h : ℕ) (i : h < z .handles) (other : t .new .0 < z .handles → t .swapped ≡ 0 → h ≢ t .new .0) where
     not-renamed : (c : ChunkNo) (e : EntryNo) → entry z s′ c e .handle .0 ≡ h → Renamed z s t c e (entry z s′ c e) → ⊥
-    not-renamed c e q w = ⊎-elim (λ (p : entry z s′ c e .handle .0 ≡ NONE). none (sym q ∙ p)) (λ p. other (p .1) (p .2) (sym q ∙ p .0)) (w .to)
-      where
-        none : h ≡ NONE → ⊥
-        none p = omega (arith, lim .handles)
+    not-renamed c e q w = ⊎-elim (λ (p : entry z s′ c e .handle .0 ≡ NONE). omega (arith, lim .handles, sym q ∙ p)) (λ p. other (p .1) (p .2) (sym q ∙ p .0)) (w .to)
 
     -- the entry that names it afterwards named it before
     row-was : (c : ChunkNo) (e : EntryNo) → Row z c e → entry z s′ c e .handle .0 ≡ h → RowKept z (entry z s c e) (entry z s′ c e)
