@@ -1,41 +1,29 @@
 -- The other stages of a task, and so every stage: the write is allowed, and the task's row afterwards has the facts.
-use Prim.Native.Nat.{ℕ, zero, suc, _+_, _≤_, _<_}
-use mathlib.Core.Path.{_≡_, refl, sym, ap, _∙_, subst}
-use mathlib.Core.Logic.{_⊎_, inl, inr, ⊎-elim, ⊎-map, _≢_}
-use mathlib.Core.Bool.{Bool, true, false, not, false≢true}
-use mathlib.Core.List.{List, [], _∷_, List·Memᴰ, List·Memᴰ·head}
-use native.Mathlib.Nat.{le-trans, le-refl}
+use Prim.Native.Nat.{ℕ, _+_, _<_}
+use mathlib.Core.Path.{_≡_, refl, sym, _∙_, subst}
+use mathlib.Core.Logic.{_⊎_, inl, inr, _≢_}
+use mathlib.Core.Bool.{true}
+use mathlib.Core.List.{List}
 use native.Mathlib.Omega.{arith}
 use lib.Dec.{eqb, ltb, leb}
-use lib.ListN.{length, getD, set}
-use borrow.Author.Tests.{lt-ltb, le-ltb, le-leb, eq-eqb, ne-eqb, ltb-true, ltb-false, leb-true, eqb-true, eqb-false}
+use lib.ListN.{set}
+use borrow.Author.Tests.{ltb-true, eqb-true}
 use Rattle.rules.specs.declared.Sizes.{Sizes}
 use Rattle.rules.specs.declared.Task.{Task}
-use Rattle.rules.specs.declared.Chunk.{Chunk}
 use Rattle.rules.specs.declared.Entry.{Entry}
-use Rattle.rules.specs.declared.ChunkNo.{ChunkNo}
-use Rattle.rules.specs.declared.EntryNo.{EntryNo}
 use Rattle.rules.specs.declared.HandleNo.{HandleNo}
-use Rattle.rules.specs.declared.Decision.{Decision}
 use Rattle.rules.specs.declared.Report.{Report}
-use Rattle.rules.specs.declared.Write.{Write}
 use Rattle.rules.specs.declared.Write.the-variants as write
-use Rattle.rules.specs.Words.{pick, _and_, _or_, NONE, noChunk, noEntry, noHandle, entryNo, unused, live, new, retired, usesFunction, inserts, get, put, putIfAbsent, compute, remove}
-use Rattle.rules.specs.Tables.{Tables, row, idleTask, withTasks, chunkAt, entryAt, chunk, entry, mark}
-use Rattle.rules.specs.Walks.{locate, find, place, lowestFree, firstPresent}
+use Rattle.rules.specs.Words.{pick, _and_, NONE, noHandle}
+use Rattle.rules.specs.Tables.{Tables, row, chunk, entry}
+use Rattle.rules.specs.Walks.{locate, find, firstPresent}
 use Rattle.rules.specs.Stages
-use Rattle.rules.specs.Shape.{numbers, heldAs, flagAs, fitsOperation}
-use Rattle.laws.specs.Counts.{Every}
-use Rattle.laws.proofs.Tests.{picked, by-test, both, or-cases}
-use Rattle.views.specs.Views.{Links, InRange}
-use Rattle.views.proofs.Entries.{links-length, find-hit, find-miss, links-below}
-use Rattle.views.proofs.Chunks.{chain-locate, chain-live}
-use Rattle.facts.specs.Facts.{Limited, ListRight, listed, Chained, Tabled, Holds, holdAt, ChunkOfKey, EntryHeld, Tasked, Waits, Allowed}
-use Rattle.facts.proofs.Numbers.{number-in, number-none, number-cases}
-use Rattle.facts.proofs.Operations.{throughout, implies, fits-move}
-use Rattle.facts.proofs.Shapes.{chain-short}
-use Rattle.facts.proofs.Writes.{slot-held, slot-written}
-use Rattle.facts.proofs.Applying.{link-applied-linked, applied-by}
+use Rattle.rules.specs.Shape.{numbers, hold, flagAs, fitsOperation}
+use Rattle.laws.proofs.EachStage.{each-stage}
+use Rattle.laws.proofs.Tests.{picked}
+use Rattle.facts.specs.Facts.{Limited, Tabled, Holds, holdAt, EntryHeld, Tasked}
+use Rattle.facts.proofs.Numbers.{number-in, number-none}
+use Rattle.facts.proofs.Operations.{throughout, implies}
 use Rattle.facts.proofs.Going
 use Rattle.facts.proofs.Going.{Fine}
 use Rattle.facts.proofs.Stages as early
@@ -62,49 +50,31 @@ module _ (z : Sizes) (lim : Limited z) (s : Tables) (h : Tabled z (s .directory)
       again : EntryHeld z (s .chunks) entries′ (t .chunk) (t .entry) (t .key) (t .stage) → EntryHeld z (s .chunks) entries′ (t .chunk) (t .entry) (t .key) m
       again y = record { inside = y .inside; used = y .used; keyed = y .keyed; linked = λ _. y .linked (λ q. ne (sym e ∙ q)) }
 
-  one-flag : (w : ℕ) → eqb w 0 ≡ true → leb w 1 ≡ true
-  one-flag w e = rw (eqb-true w 0 e)
+  -- the swap, done or failed, by what the two stages hold
+  swapped : (n o k f w : ℕ) (x : HandleNo) → t .stage ≡ n → n ≢ 0 → n ≢ 7 → throughout 8 (λ op. implies (fitsOperation op n and true) (fitsOperation op (n + 1))) ≡ true → holdAt n ≡ hold 1 1 o k 1 0 → holdAt (n + 1) ≡ hold 1 1 o k 1 f → flagAs f 0 ≡ true → flagAs f w ≡ true → numbers (z .handles) (x .0) ≡ true →
+      Fine z s (pick (Stages.stillNames z s t) (Stages.moves (Stages.goesTo t (n + 1) (t .chunk) (t .entry) (t .old) (t .new) 1 w) (write.Name (t .chunk) (t .entry) x)) (Stages.moves (Stages.keeps t (n + 1)) write.Nothing))
+  swapped n o k f w x e ne n7 fits was is f0 fw num =
+      picked (Fine z s) (Stages.stillNames z s t)
+      (λ _. naming n (n + 1) w x e n7 (omega arith) (ltb-true _ _ (H .chunk)) (ltb-true _ _ (H .entry)) num (next 1 w refl fw))
+      (λ _. Going.going z lim s h t r (n + 1) (t .chunk) (t .entry) (t .old) (t .new) (t .published) (t .swapped) (omega arith) (next (t .published) (t .swapped) (H .published) (rw (eqb-true (t .swapped) 0 (H .swapped)) f0)) (r .chunk-of-key) (Going.entry-at z lim s h t r n e n7 (n + 1)))
+    where
+      H : Holds z t (hold 1 1 o k 1 0)
+      H = subst (Holds z t) was (Going.holds-at z lim s h t r n e ne)
+
+      next : (p v : ℕ) → flagAs 1 p ≡ true → flagAs f v ≡ true → Holds z (Stages.goesTo t (n + 1) (t .chunk) (t .entry) (t .old) (t .new) p v) (holdAt (n + 1))
+      next p v i j = subst (Holds z (Stages.goesTo t (n + 1) (t .chunk) (t .entry) (t .old) (t .new) p v)) (sym is) (record { fits = Going.fit z lim s h t r n (n + 1) (λ op. true) fits e ne refl; function = H .function; chunk = H .chunk; entry = H .entry; old = H .old; new = H .new; published = i; swapped = j })
 
   swaps-fine : t .stage ≡ 11 → Fine z s (Stages.swaps z s t (t .new))
-  swaps-fine e =
-      let H = Going.holds-at z lim s h t r 11 e (omega arith) in
-      rw e (picked (Fine z s) (Stages.stillNames z s t)
-      (λ _. naming 11 12 1 (t .new) e (omega arith) (omega arith) (ltb-true _ _ (H .chunk)) (ltb-true _ _ (H .entry)) (number-in (z .handles) (t .new .0) (ltb-true (t .new .0) (z .handles) (H .new)))
-      (record { fits = Going.fit z lim s h t r 11 12 (λ op. true) refl e (omega arith) refl; function = H .function; chunk = H .chunk; entry = H .entry; old = H .old; new = H .new; published = refl; swapped = refl }))
-      (λ _. Going.going z lim s h t r 12 (t .chunk) (t .entry) (t .old) (t .new) (t .published) (t .swapped) (omega arith)
-      (record { fits = Going.fit z lim s h t r 11 12 (λ op. true) refl e (omega arith) refl; function = H .function; chunk = H .chunk; entry = H .entry; old = H .old; new = H .new; published = H .published; swapped = one-flag (t .swapped) (H .swapped) })
-      (r .chunk-of-key) (Going.entry-at z lim s h t r 11 e (omega arith) 12)))
+  swaps-fine e = rw e (swapped 11 2 1 2 1 (t .new) e (omega arith) (omega arith) refl refl refl refl refl (number-in (z .handles) (t .new .0) (ltb-true (t .new .0) (z .handles) (Going.holds-at z lim s h t r 11 e (omega arith) .new))))
 
   clears-fine : (t .stage ≡ 14) ⊎ (t .stage ≡ 20) → Fine z s (Stages.swaps z s t noHandle)
-  clears-fine (inl e) =
-      let H = Going.holds-at z lim s h t r 14 e (omega arith) in
-      rw e (picked (Fine z s) (Stages.stillNames z s t)
-      (λ _. naming 14 15 1 noHandle e (omega arith) (omega arith) (ltb-true _ _ (H .chunk)) (ltb-true _ _ (H .entry)) (number-none (z .handles))
-      (record { fits = Going.fit z lim s h t r 14 15 (λ op. true) refl e (omega arith) refl; function = H .function; chunk = H .chunk; entry = H .entry; old = H .old; new = H .new; published = refl; swapped = refl }))
-      (λ _. Going.going z lim s h t r 15 (t .chunk) (t .entry) (t .old) (t .new) (t .published) (t .swapped) (omega arith)
-      (record { fits = Going.fit z lim s h t r 14 15 (λ op. true) refl e (omega arith) refl; function = H .function; chunk = H .chunk; entry = H .entry; old = H .old; new = H .new; published = H .published; swapped = one-flag (t .swapped) (H .swapped) })
-      (r .chunk-of-key) (Going.entry-at z lim s h t r 14 e (omega arith) 15)))
-  clears-fine (inr e) =
-      let H = Going.holds-at z lim s h t r 20 e (omega arith) in
-      rw e (picked (Fine z s) (Stages.stillNames z s t)
-      (λ _. naming 20 21 0 noHandle e (omega arith) (omega arith) (ltb-true _ _ (H .chunk)) (ltb-true _ _ (H .entry)) (number-none (z .handles))
-      (record { fits = Going.fit z lim s h t r 20 21 (λ op. true) refl e (omega arith) refl; function = H .function; chunk = H .chunk; entry = H .entry; old = H .old; new = H .new; published = refl; swapped = refl }))
-      (λ _. Going.going z lim s h t r 21 (t .chunk) (t .entry) (t .old) (t .new) (t .published) (t .swapped) (omega arith)
-      (record { fits = Going.fit z lim s h t r 20 21 (λ op. true) refl e (omega arith) refl; function = H .function; chunk = H .chunk; entry = H .entry; old = H .old; new = H .new; published = H .published; swapped = H .swapped })
-      (r .chunk-of-key) (Going.entry-at z lim s h t r 20 e (omega arith) 21)))
+  clears-fine (inl e) = rw e (swapped 14 1 0 2 1 noHandle e (omega arith) (omega arith) refl refl refl refl refl (number-none (z .handles)))
+  clears-fine (inr e) = rw e (swapped 20 1 0 0 0 noHandle e (omega arith) (omega arith) refl refl refl refl refl (number-none (z .handles)))
 
   -- ---- 12, 15 unpublish
-  ends-insertion-fine : t .stage ≡ 12 → Fine z s (Stages.endsInsertion z s t)
-  ends-insertion-fine e =
-      picked (Fine z s) (Stages.swapFailed z s t)
-      (λ _. Going.restarted z lim s h t r _ (rw e (omega arith)) (Going.fit z lim s h t r 12 1 (λ op. true) refl e (omega arith) refl))
-      (λ _. Going.finished z lim s h t r _ _ tt)
-
-  ends-absent-fine : t .stage ≡ 15 → Fine z s (Stages.endsAbsent z s t)
-  ends-absent-fine e =
-      picked (Fine z s) (Stages.swapFailed z s t)
-      (λ _. Going.restarted z lim s h t r _ (rw e (omega arith)) (Going.fit z lim s h t r 15 1 (λ op. true) refl e (omega arith) refl))
-      (λ _. Going.finished z lim s h t r _ _ tt)
+  ended : (n : ℕ) (why answer : Report) → t .stage ≡ n → n ≢ 0 → throughout 8 (λ op. implies (fitsOperation op n and true) (fitsOperation op 1)) ≡ true → Fine z s (pick (Stages.swapFailed z s t) (Stages.restarts t why) (Stages.finishes write.Nothing answer))
+  ended n why answer e ne fits =
+      picked (Fine z s) (Stages.swapFailed z s t) (λ _. Going.restarted z lim s h t r _ (rw e ne) (Going.fit z lim s h t r n 1 (λ op. true) fits e ne refl)) (λ _. Going.finished z lim s h t r _ _ tt)
 
   -- ---- 17, 18 find and read again
   finds-again-fine : t .stage ≡ 17 → Fine z s (Stages.findsAgain z s t)
@@ -150,29 +120,25 @@ module _ (z : Sizes) (lim : Limited z) (s : Tables) (h : Tabled z (s .directory)
 
   -- ---- every stage
   pub decides-fine : Fine z s (Stages.decide z s t)
-  unfolding Stages.stageDoes
   decides-fine =
-      picked P (eqb n 1 or eqb n 16) (λ e. early.locates-fine z lim s h t r (⊎-map (eqb-true n 1) (eqb-true n 16) (or-cases _ _ e)))
-      (λ _. picked P (eqb n 2) (λ e. early.finds-fine z lim s h t r (eqb-true n 2 e))
-      (λ _. picked P (eqb n 3) (λ e. early.reads-fine z lim s h t r (eqb-true n 3 e))
-      (λ _. picked P (eqb n 4) (λ e. early.checks-fine z lim s h t r (eqb-true n 4 e))
-      (λ _. picked P (eqb n 5) (λ e. early.applies-fine z lim s h t r (eqb-true n 5 e))
-      (λ _. picked P (eqb n 6) (λ e. early.takes-entry-fine z lim s h t r (eqb-true n 6 e))
-      (λ _. picked P (eqb n 7) (λ e. early.links-fine z lim s h t r (eqb-true n 7 e))
-      (λ _. picked P (eqb n 8) (λ e. early.takes-handle-fine z lim s h t r (eqb-true n 8 e))
-      (λ _. picked P (eqb n 9) (λ e. early.writes-fine z lim s h t r (eqb-true n 9 e))
-      (λ _. picked P (eqb n 10 or eqb n 13 or eqb n 19) (λ e. early.publishes-fine z lim s h t r (⊎-map (eqb-true n 10) (λ o. ⊎-map (eqb-true n 13) (eqb-true n 19) (or-cases _ _ o)) (or-cases _ _ e)))
-      (λ _. picked P (eqb n 11) (λ e. swaps-fine (eqb-true n 11 e))
-      (λ _. picked P (eqb n 14 or eqb n 20) (λ e. clears-fine (⊎-map (eqb-true n 14) (eqb-true n 20) (or-cases _ _ e)))
-      (λ _. picked P (eqb n 12) (λ e. ends-insertion-fine (eqb-true n 12 e))
-      (λ _. picked P (eqb n 15) (λ e. ends-absent-fine (eqb-true n 15 e))
-      (λ _. picked P (eqb n 17) (λ e. finds-again-fine (eqb-true n 17 e))
-      (λ _. picked P (eqb n 18) (λ e. reads-again-fine (eqb-true n 18 e))
-      (λ _. picked P (eqb n 21) (λ e. Going.finished z lim s h t r _ _ tt)
-      (λ _. picked P (eqb n 22) (λ e. scans-fine (eqb-true n 22 e)) (λ _. record { allowed = tt; task = λ ts. r }))))))))))))))))))
-    where
-      n : ℕ
-      n = t .stage
-
-      P : (Sizes → Tables → Task → Decision) → Type 0
-      P f = Fine z s (f z s t)
+      each-stage z s t (Fine z s) (record {
+        locates = early.locates-fine z lim s h t r;
+        finds = early.finds-fine z lim s h t r;
+        reads = early.reads-fine z lim s h t r;
+        checks = early.checks-fine z lim s h t r;
+        applies = early.applies-fine z lim s h t r;
+        takesEntry = early.takes-entry-fine z lim s h t r;
+        links = early.links-fine z lim s h t r;
+        takesHandle = early.takes-handle-fine z lim s h t r;
+        writes = early.writes-fine z lim s h t r;
+        publishes = early.publishes-fine z lim s h t r;
+        swaps = swaps-fine;
+        clears = clears-fine;
+        endsInsertion = λ e. ended 12 _ _ e (omega arith) refl;
+        endsAbsent = λ e. ended 15 _ _ e (omega arith) refl;
+        findsAgain = finds-again-fine;
+        readsAgain = reads-again-fine;
+        endsRemove = λ e. Going.finished z lim s h t r _ _ tt;
+        scans = scans-fine;
+        stays = λ _. record { allowed = tt; task = λ ts. r };
+      })

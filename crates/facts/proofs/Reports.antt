@@ -1,93 +1,40 @@
 -- No call on tables that have the shape reports refusal 10.
-use Prim.Native.Nat.{ℕ, zero, suc, _+_, _<_}
-use mathlib.Core.Path.{_≡_, refl, sym, ap, _∙_}
+use mathlib.Core.Path.{_≡_, sym, ap, _∙_}
 use mathlib.Core.Logic.{_≢_}
-use mathlib.Core.Bool.{Bool, true, false, false≢true}
-use lib.Dec.{eqb, ltb, leb}
+use mathlib.Core.Bool.{Bool, false, false≢true}
+use lib.Dec.{eqb}
 use Rattle.rules.specs.declared.Sizes.{Sizes}
 use Rattle.rules.specs.declared.Task.{Task}
-use Rattle.rules.specs.declared.HandleNo.{HandleNo}
 use Rattle.rules.specs.declared.Decision.{Decision}
 use Rattle.rules.specs.declared.Report.{Report}
 use Rattle.rules.specs.declared.Report.the-variants as report
-use Rattle.rules.specs.Words.{pick, _and_, _or_, get, put, putIfAbsent, compute, remove, inserts, scan, usesFunction, idle, toDrain, toCopy, toSwap, toRelease}
+use Rattle.rules.specs.Words.{_and_}
 use Rattle.rules.specs.Told.{told}
-use Rattle.rules.specs.Tables.{Tables, chunk, entry, mark, task}
-use Rattle.rules.specs.Walks.{locate, find, lowestFree, firstPresent}
+use Rattle.rules.specs.Tables.{Tables}
 use Rattle.rules.specs.Stages
-use Rattle.rules.specs.Rebalance.{Outcome, unusedCount, publishedOn, heldChunk, namingFrom, begins, drains, copies, swapsIn, releases, rebalanceDoes}
-use Rattle.rules.specs.Calls.{Call, starts, steps, does}
+use Rattle.rules.specs.Rebalance.{Outcome, rebalanceDoes}
+use Rattle.rules.specs.Calls.{Call, does}
 use Rattle.rules.specs.Calls.Call.{start, step, begin, rebalance}
-use lib.ListN.{length}
-use Prim.Native.Nat.{_/_}
-use Rattle.laws.proofs.Tests.{picked}
+use Rattle.laws.proofs.Tests.{pick-of, pick-same}
 
 -- the report is refusal 10
 abbrev ten : Report → Bool
 ten r = eqb (told r .number) 0 and eqb (told r .first) 10
 
+abbrev outcome : Outcome → Bool
+outcome o = ten (o .report)
+
 pub not-ten : (r : Report) → ten r ≡ false → r ≢ report.Refused 10
 not-ten r e q = false≢true (sym e ∙ ap ten q)
 
 module _ (z : Sizes) (s : Tables) where
-  module _ (t : Task) where
-    abbrev Ok : Decision → Type 0
-    Ok x = ten (x .report) ≡ false
-
-    absent-ok : Ok (Stages.finishesAbsent t)
-    absent-ok = picked (λ (r : Report). ten r ≡ false) (eqb (t .operation) get) (λ _. refl) (λ _. refl)
-
-    swaps-ok : (h : HandleNo) → Ok (Stages.swaps z s t h)
-    swaps-ok h = picked Ok (Stages.stillNames z s t) (λ _. refl) (λ _. refl)
-
-    decides-ok : Ok (Stages.decide z s t)
-    unfolding Stages.stageDoes
-    decides-ok =
-        picked P (eqb n 1 or eqb n 16) (λ _. refl)
-        (λ _. picked P (eqb n 2) (λ _. picked Ok (Stages.hasKey z s t) (λ _. refl) (λ _. picked Ok (inserts (t .operation)) (λ _. refl) (λ _. absent-ok)))
-        (λ _. picked P (eqb n 3) (λ _. picked Ok (ltb (entry z s (t .chunk) (t .entry) .handle .0) (z .handles)) (λ _. refl) (λ _. picked Ok (inserts (t .operation)) (λ _. refl) (λ _. absent-ok)))
-        (λ _. picked P (eqb n 4) (λ _. picked Ok (eqb (mark s (t .old)) 0) (λ _. picked Ok (eqb (t .operation) get) (λ _. refl) (λ _. picked Ok (eqb (t .operation) putIfAbsent) (λ _. refl) (λ _. refl))) (λ _. picked Ok (eqb (t .operation) get) (λ _. absent-ok) (λ _. refl)))
-        (λ _. picked P (eqb n 5) (λ _. picked Ok (eqb (mark s (t .old)) 0) (λ _. picked Ok (eqb (t .operation) remove) (λ _. refl) (λ _. picked Ok (eqb (t .operation) put) (λ _. refl) (λ _. picked (λ (r : Report). ten r ≡ false) (eqb (t .operation) compute) (λ _. refl) (λ _. refl)))) (λ _. picked Ok (inserts (t .operation)) (λ _. refl) (λ _. refl)))
-        (λ _. picked P (eqb n 6) (λ _. picked Ok (eqb (chunk s (t .chunk) .frozen) 0) (λ _. picked Ok (ltb (chunk s (t .chunk) .used) (z .entries)) (λ _. refl) (λ _. refl)) (λ _. refl))
-        (λ _. picked P (eqb n 7) (λ _. picked Ok (eqb (chunk s (t .chunk) .frozen) 0) (λ _. picked Ok (Stages.hasOther z s t) (λ _. refl) (λ _. refl)) (λ _. refl))
-        (λ _. picked P (eqb n 8) (λ _. picked Ok (ltb (lowestFree z s .0) (z .handles)) (λ _. refl) (λ _. refl))
-        (λ _. picked P (eqb n 9) (λ _. refl)
-        (λ _. picked P (eqb n 10 or eqb n 13 or eqb n 19) (λ _. picked Ok (Stages.mayPublish z s t) (λ _. refl) (λ _. picked Ok (eqb (t .stage) 19) (λ _. refl) (λ _. refl)))
-        (λ _. picked P (eqb n 11) (λ _. swaps-ok _)
-        (λ _. picked P (eqb n 14 or eqb n 20) (λ _. swaps-ok _)
-        (λ _. picked P (eqb n 12) (λ _. picked Ok (Stages.swapFailed z s t) (λ _. refl) (λ _. picked (λ (r : Report). ten r ≡ false) (eqb (t .operation) putIfAbsent) (λ _. refl) (λ _. refl)))
-        (λ _. picked P (eqb n 15) (λ _. picked Ok (Stages.swapFailed z s t) (λ _. refl) (λ _. absent-ok))
-        (λ _. picked P (eqb n 17) (λ _. picked Ok (Stages.hasKey z s t) (λ _. refl) (λ _. refl))
-        (λ _. picked P (eqb n 18) (λ _. picked Ok (eqb (entry z s (t .chunk) (t .entry) .handle .0) (t .old .0)) (λ _. refl) (λ _. refl))
-        (λ _. picked P (eqb n 21) (λ _. refl)
-        (λ _. picked P (eqb n 22) (λ _. picked Ok (leb (t .argument) (t .key)) (λ _. refl) (λ _. picked Ok (ltb (firstPresent z s (locate z s (t .key)) (t .key) (t .argument) .0) (z .entries)) (λ _. refl) (λ _. picked Ok (ltb (chunk s (locate z s (t .key)) .next .0) (z .chunks)) (λ _. refl) (λ _. refl)))) (λ _. refl))))))))))))))))))
-      where
-        n : ℕ
-        n = t .stage
-
-        P : (Sizes → Tables → Task → Decision) → Type 0
-        P f = Ok (f z s t)
-
-  abbrev Okay : Outcome → Type 0
-  Okay o = ten (o .report) ≡ false
+  decides-ok : (t : Task) → ten (Stages.decide z s t .report) ≡ false
+  unfolding Stages.stageDoes
+  decides-ok t = simp (pick-of ten, pick-of (λ (x : Decision). ten (x .report)), pick-of (λ (f : Sizes → Tables → Task → Decision). ten (f z s t .report)), pick-same)
 
   pub does-ok : (c : Call) → ten (does z s c .report) ≡ false
   unfolding does rebalanceDoes
-  does-ok (start n op k a f) =
-      picked Okay (leb (z .tasks) n) (λ _. refl)
-      (λ _. picked Okay (eqb (task s n .stage) 0)
-      (λ _. picked Okay (ltb op 1 or ltb 7 op or (usesFunction op and (ltb f 1 or ltb 3 f))) (λ _. refl) (λ _. picked Okay (eqb op scan and ltb a k) (λ _. refl) (λ _. refl)))
-      (λ _. refl))
-  does-ok (step n) = picked Okay (leb (z .tasks) n) (λ _. refl) (λ _. picked Okay (eqb (task s n .stage) 0) (λ _. refl) (λ _. decides-ok (task s n)))
-  does-ok (begin k) = picked Okay (eqb (s .directory .stage) idle) (λ _. picked Okay (ltb (unusedCount (s .chunks)) 2) (λ _. refl) (λ _. refl)) (λ _. refl)
-  does-ok rebalance =
-      picked Q (eqb n toDrain) (λ _. picked Okay (publishedOn (s .tasks) (s .directory .old)) (λ _. refl) (λ _. refl))
-      (λ _. picked Q (eqb n toCopy) (λ _. picked Okay (leb (length (namingFrom z (s .entries) (s .directory .old) (z .entries) (chunk s (s .directory .old) .head))) (z .entries / 2)) (λ _. refl) (λ _. refl))
-      (λ _. picked Q (eqb n toSwap) (λ _. refl)
-      (λ _. picked Q (eqb n toRelease) (λ _. picked Okay (heldChunk (s .tasks) (s .directory .old)) (λ _. refl) (λ _. refl)) (λ _. refl))))
-    where
-      n : ℕ
-      n = s .directory .stage
-
-      Q : (Sizes → Tables → Outcome) → Type 0
-      Q f = Okay (f z s)
+  does-ok (start n op k a f) = simp (pick-of outcome, pick-same)
+  does-ok (step n) = simp (pick-of outcome, decides-ok, pick-same)
+  does-ok (begin k) = simp (pick-of outcome, pick-same)
+  does-ok rebalance = simp (pick-of outcome, pick-of (λ (f : Sizes → Tables → Outcome). outcome (f z s)), pick-same)

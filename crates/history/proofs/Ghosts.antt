@@ -15,7 +15,7 @@ use Rattle.rules.specs.declared.Task.{Task}
 use Rattle.rules.specs.declared.Decision.{Decision}
 use Rattle.rules.specs.declared.Report.{Report}
 use Rattle.rules.specs.Words.{pick, _or_, get, upsert, compute, remove, scan, usesFunction}
-use Rattle.rules.specs.Tables.{Tables, task}
+use Rattle.rules.specs.Tables.{Tables}
 use Rattle.rules.specs.Stages
 use Rattle.rules.specs.Rebalance.{Outcome}
 use Rattle.rules.specs.Calls.{Call, started}
@@ -23,6 +23,7 @@ use Rattle.rules.specs.Map.{Pair, Effect, lookup, bySeen, sequential}
 use Rattle.laws.proofs.Tests.{by-test, or-cases, or-left, or-right}
 use Rattle.facts.specs.Facts.{Limited}
 use Rattle.facts.specs.Simulates.{decides, mapThen, changeAnswer}
+use Rattle.simulation.proofs.Deciding.{is-none}
 use Rattle.simulation.proofs.Simulating.{beside-holds, simulates}
 use Rattle.history.specs.Runs.{tablesAt, mapAt, taskAt, DecidesAt, Working, Stepped}
 use Rattle.history.specs.Answers.{NeverDecides, ByChange}
@@ -55,10 +56,6 @@ module _ (m : List Pair) (op k a f : ℕ) where
 
   pub asked : (t : Task) → Started op k a f t → op ≢ scan → sequential m (t .operation) (t .key) (t .argument) (t .function) ≡ sequential m op k a f
   asked t st ne = rw (st .operation, st .key ne, st .argument, st .function) kept-numbers
-
-is-none : (o : Option ℕ) → ((v : ℕ) → o ≡ some v → ⊥) → o ≡ none
-is-none none f = refl
-is-none (some v) f = absurd (f v refl)
 
 -- a task that shows none looks
 looking : {z : Sizes} {x : Tables} {t : Task} → Gone z x t → (looksIn (t .stage) ≡ true) ⊎ (looksOld (t .stage) ≡ true)

@@ -4,11 +4,11 @@ use mathlib.Core.Path.{_≡_, refl, sym, ap, _∙_}
 use mathlib.Core.Logic.{_≢_}
 use mathlib.Core.Bool.{false}
 use mathlib.Core.List.{List, [], _∷_}
-use native.Mathlib.Nat.{not-suc-le-zero, le-of-suc-le-suc}
+use native.Mathlib.Nat.{le-trans}
 use native.Mathlib.Decide.{ℕ-discrete, decLt}
 use native.Mathlib.Omega.{arith}
 use lib.Dec.{eqb, ltb, leb}
-use lib.ListN.{length, getD, set}
+use lib.ListN.{getD, set, List·getD-eq-default}
 use lib.Seq.{getD-set-same, getD-set-other}
 use borrow.Author.Tests.{eqb-true, eqb-false, ltb-false, leb-true, leb-false, eq-eqb}
 use Rattle.rules.specs.declared.Sizes.{Sizes}
@@ -60,17 +60,11 @@ step-not-start = apart refl
 refused-not-moved : (m : ℕ) → report.Refused m ≢ report.Moved
 refused-not-moved m e = eqb-false 0 1 refl (ap (λ (r : Report). told r .number) e)
 
--- past a list's length stands what stands for none
-getD-out : {A : Type 0} (l : List A) (i : ℕ) (d : A) → length l ≤ i → getD l i d ≡ d
-getD-out [] i d le = refl
-getD-out (x ∷ l) zero d le = absurd (not-suc-le-zero le)
-getD-out (x ∷ l) (suc i) d le = getD-out l i d (le-of-suc-le-suc le)
-
 -- ---- a call and one task's row
 module _ (z : Sizes) (lim : Limited z) (s : Tables) (kept : Kept z s) where
   -- past the table's size the row is an idle one's
   past-idle : (n : ℕ) → z .tasks ≤ n → task s n .stage ≡ 0
-  past-idle n le = rw (getD-out (s .tasks) n idleTask (rw (kept .tasks-sized) le)) refl
+  past-idle n le = rw (List·getD-eq-default (s .tasks) idleTask {n = n} (rw (kept .tasks-sized) le)) refl
 
   -- a row after another, or itself, was written
   put-row : (n : ℕ) (t : Task) → n < z .tasks → getD (set (s .tasks) n t) n idleTask ≡ t
@@ -186,16 +180,20 @@ module _ (z : Sizes) (run : ℕ → Call) where
       pub row-next : (i : ℕ) → taskAt z run (suc i) n ≡ task (calls z (tablesAt z run i) (run i) .tables) n
       row-next i = ap (λ (s : Tables). task s n) (tables-next i)
 
-      -- an operation at work stays so while the task is at work
+      -- an operation at work was at work before
+      pub earlier : {op k a f j i : ℕ} → Working z run n op k a f j i → (x : ℕ) → j < x → x ≤ i → Working z run n op k a f j x
+      earlier w x after le = record { call = w .call; taken = w .taken; before = after; on = λ y since to. w .on y since (le-trans to le) }
+
+      -- and stays so while the task is at work
       pub working-on : {op k a f j i : ℕ} → Working z run n op k a f j i → taskAt z run (suc i) n .stage ≢ 0 → Working z run n op k a f j (suc i)
       working-on {j = j} {i = i} w busy = record { call = w .call; taken = w .taken; before = omega (arith, w .before); on = λ x after le. elim (ℕ-discrete x (suc i)) [ yes e ↦ rw e busy | no ne ↦ w .on x after (omega (arith, le, ne)) ] }
 
-      -- and was so, or begins
+      -- it was so, or begins
       pub came : {op k a f j i : ℕ} → Working z run n op k a f j (suc i) → Came z run n op k a f j i
       came {op = op} {k = k} {a = a} {f = f} {j = j} {i = i} w = elim (decLt j i) [ yes lt ↦ on lt (run-turns i n) | no ge ↦ fresh-one (omega (arith, ge, w .before)) (run-turns i n) ]
         where
           before : j < i → Working z run n op k a f j i
-          before lt = record { call = w .call; taken = w .taken; before = lt; on = λ x after le. w .on x after (omega (arith, le)) }
+          before lt = earlier w i lt (omega arith)
 
           on : j < i → Turn z (tablesAt z run i) (run i) n → Came z run n op k a f j i
           on lt (Turn.begins _ _ _ _ b) = absurd (w .on i lt (omega arith) (b .was))

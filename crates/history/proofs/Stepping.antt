@@ -1,7 +1,7 @@
 -- What a step of a task at work does, stage by stage.
 use Prim.Native.Nat.{ℕ, _≤_, _<_}
 use mathlib.Core.Path.{_≡_, refl, sym, ap, _∙_}
-use mathlib.Core.Logic.{_⊎_, inl, inr, ⊎-elim, ⊎-map, _≢_}
+use mathlib.Core.Logic.{_⊎_, inl, inr, ⊎-elim, _≢_}
 use mathlib.Core.Bool.{Bool, true, false, not, false≢true}
 use mathlib.Core.List.{List}
 use native.Mathlib.Omega.{arith}
@@ -23,6 +23,7 @@ use Rattle.rules.specs.Tables.{Tables, chunk, entry, mark, task, putTask}
 use Rattle.rules.specs.Walks.{locate, find, lowestFree, firstPresent}
 use Rattle.rules.specs.Stages
 use Rattle.rules.specs.Map.{Pair, effect, onAbsent}
+use Rattle.laws.proofs.EachStage.{each-stage}
 use Rattle.laws.proofs.Tests.{picked, by-test, or-cases, or-left, or-right}
 use Rattle.facts.specs.Facts.{Limited, Holds, holdAt, EntryHeld, Kept}
 use Rattle.facts.specs.Reached.{Reached}
@@ -297,30 +298,25 @@ module _ (z : Sizes) (lim : Limited z) (s : Tables) (r : Reached z s) (n : ℕ) 
       same (Gone.old q d) = inl (Gone.old q d)
 
   pub decides-goes : t .stage ≢ 0 → By (Stages.decide z s t)
-  unfolding Stages.stageDoes
   decides-goes busy =
-      picked P (eqb m 1 or eqb m 16) (λ e. locates-goes (⊎-map (eqb-true m 1) (eqb-true m 16) (or-cases _ _ e)))
-      (λ _. picked P (eqb m 2) (λ e. finds-goes (eqb-true m 2 e))
-      (λ _. picked P (eqb m 3) (λ e. reads-goes (eqb-true m 3 e))
-      (λ _. picked P (eqb m 4) (λ e. checks-goes (eqb-true m 4 e))
-      (λ _. picked P (eqb m 5) (λ e. applies-goes (eqb-true m 5 e))
-      (λ n5. picked P (eqb m 6) (λ e. takes-entry-goes (eqb-true m 6 e))
-      (λ _. picked P (eqb m 7) (λ e. links-goes (eqb-true m 7 e))
-      (λ _. picked P (eqb m 8) (λ e. takes-handle-goes (eqb-true m 8 e))
-      (λ _. picked P (eqb m 9) (λ e. away (stands 9 (eqb-true m 9 e) refl refl) refl refl refl)
-      (λ _. picked P (eqb m 10 or eqb m 13 or eqb m 19) (λ e. publishes-goes (⊎-map (eqb-true m 10) (λ o. ⊎-map (eqb-true m 13) (eqb-true m 19) (or-cases _ _ o)) (or-cases _ _ e)))
-      (λ _. picked P (eqb m 11) (λ e. swaps-goes (eqb-true m 11 e))
-      (λ n11. picked P (eqb m 14 or eqb m 20) (λ e. clears-goes (⊎-map (eqb-true m 14) (eqb-true m 20) (or-cases _ _ e)))
-      (λ _. picked P (eqb m 12) (λ e. ends-insertion-goes (eqb-true m 12 e))
-      (λ _. picked P (eqb m 15) (λ e. ends-absent-goes (eqb-true m 15 e))
-      (λ _. picked P (eqb m 17) (λ e. finds-again-goes (eqb-true m 17 e))
-      (λ _. picked P (eqb m 18) (λ e. reads-again-goes (eqb-true m 18 e))
-      (λ _. picked P (eqb m 21) (λ e. removed 21 (eqb-true m 21 e) refl (omega arith) (stands 21 (eqb-true m 21 e) refl refl))
-      (λ _. picked P (eqb m 22) (λ e. scans-goes (eqb-true m 22 e))
-      (λ _. stays-goes busy (rw (n11, n5) refl)))))))))))))))))))
-    where
-      m : ℕ
-      m = t .stage
-
-      P : (Sizes → Tables → Task → Decision) → Type 0
-      P f = By (f z s t)
+      each-stage z s t By (record {
+        locates = locates-goes;
+        finds = finds-goes;
+        reads = reads-goes;
+        checks = checks-goes;
+        applies = applies-goes;
+        takesEntry = takes-entry-goes;
+        links = links-goes;
+        takesHandle = takes-handle-goes;
+        writes = λ e. away (stands 9 e refl refl) refl refl refl;
+        publishes = publishes-goes;
+        swaps = swaps-goes;
+        clears = clears-goes;
+        endsInsertion = ends-insertion-goes;
+        endsAbsent = ends-absent-goes;
+        findsAgain = finds-again-goes;
+        readsAgain = reads-again-goes;
+        endsRemove = λ e. removed 21 e refl (omega arith) (stands 21 e refl refl);
+        scans = scans-goes;
+        stays = λ none. stays-goes busy (rw (none 11 refl, none 5 refl) refl);
+      })

@@ -1,27 +1,27 @@
 -- Each stage of a task: what the records of the handles that it holds say afterwards.
-use Prim.Native.Nat.{ℕ, zero, suc, _+_, _≤_, _<_}
-use mathlib.Core.Path.{_≡_, refl, sym, ap, _∙_}
-use mathlib.Core.Logic.{_⊎_, inl, inr, ⊎-elim, ⊎-map, _≢_}
-use mathlib.Core.Bool.{Bool, true, false}
+use Prim.Native.Nat.{ℕ, _+_, _≤_, _<_}
+use mathlib.Core.Path.{_≡_, refl, _∙_}
+use mathlib.Core.Logic.{_⊎_, inl, inr, ⊎-elim, _≢_}
+use mathlib.Core.Bool.{true, false}
 use mathlib.Core.List.{List}
 use native.Mathlib.Omega.{arith}
 use lib.Dec.{eqb, ltb, leb}
-use lib.ListN.{length, getD, set}
+use lib.ListN.{getD}
 use lib.Seq.{getD-set-same, getD-set-other}
 use borrow.Author.Tests.{ltb-true, eqb-true, eqb-false}
 use Rattle.rules.specs.declared.Sizes.{Sizes}
 use Rattle.rules.specs.declared.Task.{Task}
 use Rattle.rules.specs.declared.HandleNo.{HandleNo}
 use Rattle.rules.specs.declared.Decision.{Decision}
-use Rattle.rules.specs.declared.Report.{Report}
 use Rattle.rules.specs.declared.Write.{Write}
 use Rattle.rules.specs.declared.Write.the-variants as write
-use Rattle.rules.specs.Words.{pick, _or_, NONE, noHandle, get, put, putIfAbsent, compute, remove, inserts}
+use Rattle.rules.specs.Words.{pick, NONE, noHandle, get, put, putIfAbsent, remove, inserts}
 use Rattle.rules.specs.Tables.{Tables, withTasks, chunk, entry, mark, task}
 use Rattle.rules.specs.Walks.{locate, find, lowestFree, firstPresent}
 use Rattle.rules.specs.Stages
-use Rattle.laws.proofs.Tests.{picked, or-cases}
-use Rattle.facts.specs.Facts.{Limited, Tabled, Holds, holdAt, Tasked, Kept}
+use Rattle.laws.proofs.EachStage.{each-stage}
+use Rattle.laws.proofs.Tests.{picked}
+use Rattle.facts.specs.Facts.{Limited, Holds, holdAt, Kept}
 use Rattle.facts.proofs.Numbers.{holding}
 use Rattle.handles.proofs.Free.{free-unheld}
 use Rattle.holds.specs.Marked.{OldDeleted, NewWritten, Marked}
@@ -84,26 +84,20 @@ module _ (z : Sizes) (lim : Limited z) (s : Tables) (kept : Kept z s) (marked : 
       let H = holds-at 5 e (omega arith) in
       picked Marks (eqb (mark s (t .old)) 0)
       (λ _. picked Marks (eqb (t .operation) remove)
-      (λ _. record { old = λ ts _ _ b. getD-set-same (s .marks) (t .old .0) 1 0 (rw (kept .marks-sized) b); new = λ ts b. absurd (out b); touches = refl })
+      (λ _. record { old = λ ts _ _ b. getD-set-same (s .marks) (t .old .0) 1 0 (rw (kept .marks-sized) b); new = λ ts b. absurd (never refl b); touches = refl })
       (λ _. picked Marks (eqb (t .operation) put) (λ _. gone refl refl (inl refl)) (λ _. gone refl refl (inl refl))))
       (λ d. picked Marks (inserts (t .operation)) (λ _. gone refl refl tt) (λ _. keeps-deleted 5 13 e (omega arith) refl d))
-    where
-      out : NONE < z .handles → ⊥
-      out b = omega (arith, lim .handles)
 
   takes-marks : t .stage ≡ 8 → Marks (Stages.takesHandle z s t)
   takes-marks e =
       picked Marks (ltb (lowestFree z s .0) (z .handles))
       (λ i. record {
         old = λ ts x y b. getD-set-other (s .marks) (lowestFree z s .0) (t .old .0) 0 0 (apart i n .0) ∙ old-on 8 e (omega arith) (omega arith) (Stages.goesTo t 9 (t .chunk) (t .entry) (t .old) (lowestFree z s) 0 0) refl x y b;
-        new = λ ts b w. (getD-set-same (s .marks) (lowestFree z s .0) 0 0 (rw (kept .marks-sized) b), λ le. absurd (nine le));
+        new = λ ts b w. (getD-set-same (s .marks) (lowestFree z s .0) 0 0 (rw (kept .marks-sized) b), λ le. omega arith);
         touches = apart i;
       })
       (λ _. gone refl refl tt)
     where
-      nine : 10 ≤ 9 → ⊥
-      nine le = omega arith
-
       apart : ltb (lowestFree z s .0) (z .handles) ≡ true → (m : ℕ) → (task s m .old .0 ≢ lowestFree z s .0) × (task s m .new .0 ≢ lowestFree z s .0)
       apart i = free-unheld z (lim .handles) s (kept .tables .entries-sized) (ltb-true _ _ i)
 
@@ -115,49 +109,42 @@ module _ (z : Sizes) (lim : Limited z) (s : Tables) (kept : Kept z s) (marked : 
         touches = inr refl;
       }
 
-  publishes-marks : (m : ℕ) → t .stage ≡ m → m ≢ 0 → m ≢ 4 → m ≢ 5 → 10 ≤ m → holdAt m .swapped ≡ 0 → Marks (Stages.publishes z s t)
-  publishes-marks m e ne x y le sw =
+  publishes-marks : (m : ℕ) → t .stage ≡ m → 10 ≤ m → holdAt m .swapped ≡ 0 → Marks (Stages.publishes z s t)
+  publishes-marks m e le sw =
       picked Marks (Stages.mayPublish z s t)
-      (λ _. record { old = λ ts. old-on m e x y (Stages.goesTo t (t .stage + 1) (t .chunk) (t .entry) (t .old) (t .new) 1 0) refl; new = λ ts. new-on (Stages.goesTo t (t .stage + 1) (t .chunk) (t .entry) (t .old) (t .new) 1 0) refl (λ _. eqb-true _ _ (rw sw at (holds-at m e ne .swapped))) (λ _. rw e le) refl; touches = tt })
-      (λ _. picked Marks (eqb (t .stage) 19) (λ _. record { old = λ ts. old-on m e x y (Stages.goesTo t 16 (record { 0 = NONE }) (record { 0 = NONE }) (t .old) noHandle 0 0) refl; new = λ ts. none-new (Stages.goesTo t 16 (record { 0 = NONE }) (record { 0 = NONE }) (t .old) noHandle 0 0) refl; touches = tt }) (λ _. gone refl refl tt))
+      (λ _. record { old = λ ts. old-on m e (omega arith) (omega arith) (Stages.goesTo t (t .stage + 1) (t .chunk) (t .entry) (t .old) (t .new) 1 0) refl; new = λ ts. new-on (Stages.goesTo t (t .stage + 1) (t .chunk) (t .entry) (t .old) (t .new) 1 0) refl (λ _. eqb-true _ _ (rw sw at (holds-at m e (omega arith) .swapped))) (λ _. rw e le) refl; touches = tt })
+      (λ _. picked Marks (eqb (t .stage) 19) (λ _. record { old = λ ts. old-on m e (omega arith) (omega arith) (Stages.goesTo t 16 (record { 0 = NONE }) (record { 0 = NONE }) (t .old) noHandle 0 0) refl; new = λ ts. none-new (Stages.goesTo t 16 (record { 0 = NONE }) (record { 0 = NONE }) (t .old) noHandle 0 0) refl; touches = tt }) (λ _. gone refl refl tt))
 
-  swaps-marks : (m : ℕ) (h : HandleNo) → t .stage ≡ m → m ≢ 0 → m ≢ 4 → m ≢ 5 → 10 ≤ m → holdAt m .swapped ≡ 0 → Marks (Stages.swaps z s t h)
-  swaps-marks m h e ne x y le sw =
+  swaps-marks : (m : ℕ) (h : HandleNo) → t .stage ≡ m → 10 ≤ m → holdAt m .swapped ≡ 0 → Marks (Stages.swaps z s t h)
+  swaps-marks m h e le sw =
       picked Marks (Stages.stillNames z s t)
-      (λ _. record { old = λ ts. old-on m e x y t′ refl; new = λ ts. new-on t′ refl (λ _. eqb-true _ _ (rw sw at (holds-at m e ne .swapped))) (λ _. rw e le) refl; touches = tt })
-      (λ _. record { old = λ ts. old-on m e x y (Stages.keeps t (t .stage + 1)) refl; new = λ ts. new-on (Stages.keeps t (t .stage + 1)) refl (λ q. q) (λ _. rw e le) refl; touches = tt })
+      (λ _. record { old = λ ts. old-on m e (omega arith) (omega arith) t′ refl; new = λ ts. new-on t′ refl (λ _. eqb-true _ _ (rw sw at (holds-at m e (omega arith) .swapped))) (λ _. rw e le) refl; touches = tt })
+      (λ _. record { old = λ ts. old-on m e (omega arith) (omega arith) (Stages.keeps t (t .stage + 1)) refl; new = λ ts. new-on (Stages.keeps t (t .stage + 1)) refl (λ q. q) (λ _. rw e le) refl; touches = tt })
     where
       t′ : Task
       t′ = Stages.goesTo t (t .stage + 1) (t .chunk) (t .entry) (t .old) (t .new) 1 (pick (eqb (t .stage) 20) 0 1)
 
   -- ---- every stage
   pub decides-marks : Marks (Stages.decide z s t)
-  unfolding Stages.stageDoes
   decides-marks =
-      picked P (eqb m 1 or eqb m 16) (λ e. locates-marks (⊎-map (eqb-true m 1) (eqb-true m 16) (or-cases _ _ e)))
-      (λ _. picked P (eqb m 2) (λ e. picked Marks (Stages.hasKey z s t) (λ _. gone refl refl tt) (λ _. picked Marks (inserts (t .operation)) (λ _. keeps-on 2 6 (eqb-true m 2 e) (omega arith) (omega arith) (omega arith)) (λ _. gone refl refl tt)))
-      (λ _. picked P (eqb m 3) (λ e. picked Marks (ltb (entry z s (t .chunk) (t .entry) .handle .0) (z .handles)) (λ _. record { old = λ ts x. absurd (x refl); new = λ ts b. absurd (out b); touches = tt }) (λ _. picked Marks (inserts (t .operation)) (λ _. keeps-on 3 8 (eqb-true m 3 e) (omega arith) (omega arith) (omega arith)) (λ _. gone refl refl tt)))
-      (λ _. picked P (eqb m 4) (λ e. picked Marks (eqb (mark s (t .old)) 0) (λ _. picked Marks (eqb (t .operation) get) (λ _. gone refl refl tt) (λ _. picked Marks (eqb (t .operation) putIfAbsent) (λ _. gone refl refl tt) (λ _. record { old = λ ts _ y. absurd (y refl); new = λ ts. none-new (Stages.keeps t 5) (eqb-true _ _ (holds-at 4 (eqb-true m 4 e) (omega arith) .new)); touches = tt }))) (λ d. picked Marks (eqb (t .operation) get) (λ _. gone refl refl tt) (λ _. keeps-deleted 4 (pick (inserts (t .operation)) 8 13) (eqb-true m 4 e) (omega arith) refl d)))
-      (λ _. picked P (eqb m 5) (λ e. applies-marks (eqb-true m 5 e))
-      (λ _. picked P (eqb m 6) (λ _. picked Marks (eqb (chunk s (t .chunk) .frozen) 0) (λ _. picked Marks (ltb (chunk s (t .chunk) .used) (z .entries)) (λ _. gone refl refl tt) (λ _. gone refl refl tt)) (λ _. gone refl refl tt))
-      (λ _. picked P (eqb m 7) (λ e. picked Marks (eqb (chunk s (t .chunk) .frozen) 0) (λ _. picked Marks (Stages.hasOther z s t) (λ _. gone refl refl tt) (λ _. gone (eqb-true _ _ (holds-at 7 (eqb-true m 7 e) (omega arith) .old)) (eqb-true _ _ (holds-at 7 (eqb-true m 7 e) (omega arith) .new)) tt)) (λ _. gone refl refl tt))
-      (λ _. picked P (eqb m 8) (λ e. takes-marks (eqb-true m 8 e))
-      (λ _. picked P (eqb m 9) (λ e. writes-marks (eqb-true m 9 e))
-      (λ _. picked P (eqb m 10 or eqb m 13 or eqb m 19) (λ e. ⊎-elim (λ o. publishes-marks 10 (eqb-true m 10 o) (omega arith) (omega arith) (omega arith) (omega arith) refl) (λ o. ⊎-elim (λ v. publishes-marks 13 (eqb-true m 13 v) (omega arith) (omega arith) (omega arith) (omega arith) refl) (λ v. publishes-marks 19 (eqb-true m 19 v) (omega arith) (omega arith) (omega arith) (omega arith) refl) (or-cases _ _ o)) (or-cases _ _ e))
-      (λ _. picked P (eqb m 11) (λ e. swaps-marks 11 (t .new) (eqb-true m 11 e) (omega arith) (omega arith) (omega arith) (omega arith) refl)
-      (λ _. picked P (eqb m 14 or eqb m 20) (λ e. ⊎-elim (λ o. swaps-marks 14 noHandle (eqb-true m 14 o) (omega arith) (omega arith) (omega arith) (omega arith) refl) (λ o. swaps-marks 20 noHandle (eqb-true m 20 o) (omega arith) (omega arith) (omega arith) (omega arith) refl) (or-cases _ _ e))
-      (λ _. picked P (eqb m 12) (λ _. picked Marks (Stages.swapFailed z s t) (λ _. gone refl refl tt) (λ _. gone refl refl tt))
-      (λ _. picked P (eqb m 15) (λ _. picked Marks (Stages.swapFailed z s t) (λ _. gone refl refl tt) (λ _. gone refl refl tt))
-      (λ _. picked P (eqb m 17) (λ e. picked Marks (Stages.hasKey z s t) (λ _. record { old = λ ts. old-on 17 (eqb-true m 17 e) (omega arith) (omega arith) (Stages.goesTo t 18 (t .chunk) (find z s (t .chunk) (t .key)) (t .old) noHandle 0 0) refl; new = λ ts b. absurd (out b); touches = tt }) (λ _. gone refl refl tt))
-      (λ _. picked P (eqb m 18) (λ e. picked Marks (eqb (entry z s (t .chunk) (t .entry) .handle .0) (t .old .0)) (λ _. keeps-on 18 19 (eqb-true m 18 e) (omega arith) (omega arith) (omega arith)) (λ _. gone refl refl tt))
-      (λ _. picked P (eqb m 21) (λ _. gone refl refl tt)
-      (λ _. picked P (eqb m 22) (λ e. let H = holds-at 22 (eqb-true m 22 e) (omega arith) in picked Marks (leb (t .argument) (t .key)) (λ _. gone refl refl tt) (λ _. picked Marks (ltb (firstPresent z s (locate z s (t .key)) (t .key) (t .argument) .0) (z .entries)) (λ _. gone (eqb-true _ _ (H .old)) (eqb-true _ _ (H .new)) tt) (λ _. picked Marks (ltb (chunk s (locate z s (t .key)) .next .0) (z .chunks)) (λ _. gone (eqb-true _ _ (H .old)) (eqb-true _ _ (H .new)) tt) (λ _. gone refl refl tt)))) (λ _. record { old = λ ts. marked .old-deleted n; new = λ ts. marked .new-written n; touches = tt }))))))))))))))))))
-    where
-      m : ℕ
-      m = t .stage
-
-      P : (Sizes → Tables → Task → Decision) → Type 0
-      P f = Marks (f z s t)
-
-      out : NONE < z .handles → ⊥
-      out b = omega (arith, lim .handles)
+      each-stage z s t Marks (record {
+        locates = locates-marks;
+        finds = λ e. picked Marks (Stages.hasKey z s t) (λ _. gone refl refl tt) (λ _. picked Marks (inserts (t .operation)) (λ _. keeps-on 2 6 e (omega arith) (omega arith) (omega arith)) (λ _. gone refl refl tt));
+        reads = λ e. picked Marks (ltb (entry z s (t .chunk) (t .entry) .handle .0) (z .handles)) (λ _. record { old = λ ts x. absurd (x refl); new = λ ts b. absurd (never refl b); touches = tt }) (λ _. picked Marks (inserts (t .operation)) (λ _. keeps-on 3 8 e (omega arith) (omega arith) (omega arith)) (λ _. gone refl refl tt));
+        checks = λ e. picked Marks (eqb (mark s (t .old)) 0) (λ _. picked Marks (eqb (t .operation) get) (λ _. gone refl refl tt) (λ _. picked Marks (eqb (t .operation) putIfAbsent) (λ _. gone refl refl tt) (λ _. record { old = λ ts _ y. absurd (y refl); new = λ ts. none-new (Stages.keeps t 5) (eqb-true _ _ (holds-at 4 e (omega arith) .new)); touches = tt }))) (λ d. picked Marks (eqb (t .operation) get) (λ _. gone refl refl tt) (λ _. keeps-deleted 4 (pick (inserts (t .operation)) 8 13) e (omega arith) refl d));
+        applies = applies-marks;
+        takesEntry = λ _. picked Marks (eqb (chunk s (t .chunk) .frozen) 0) (λ _. picked Marks (ltb (chunk s (t .chunk) .used) (z .entries)) (λ _. gone refl refl tt) (λ _. gone refl refl tt)) (λ _. gone refl refl tt);
+        links = λ e. picked Marks (eqb (chunk s (t .chunk) .frozen) 0) (λ _. picked Marks (Stages.hasOther z s t) (λ _. gone refl refl tt) (λ _. gone (eqb-true _ _ (holds-at 7 e (omega arith) .old)) (eqb-true _ _ (holds-at 7 e (omega arith) .new)) tt)) (λ _. gone refl refl tt);
+        takesHandle = takes-marks;
+        writes = writes-marks;
+        publishes = ⊎-elim (λ o. publishes-marks 10 o (omega arith) refl) (⊎-elim (λ v. publishes-marks 13 v (omega arith) refl) (λ v. publishes-marks 19 v (omega arith) refl));
+        swaps = λ e. swaps-marks 11 (t .new) e (omega arith) refl;
+        clears = ⊎-elim (λ o. swaps-marks 14 noHandle o (omega arith) refl) (λ o. swaps-marks 20 noHandle o (omega arith) refl);
+        endsInsertion = λ _. picked Marks (Stages.swapFailed z s t) (λ _. gone refl refl tt) (λ _. gone refl refl tt);
+        endsAbsent = λ _. picked Marks (Stages.swapFailed z s t) (λ _. gone refl refl tt) (λ _. gone refl refl tt);
+        findsAgain = λ e. picked Marks (Stages.hasKey z s t) (λ _. record { old = λ ts. old-on 17 e (omega arith) (omega arith) (Stages.goesTo t 18 (t .chunk) (find z s (t .chunk) (t .key)) (t .old) noHandle 0 0) refl; new = λ ts b. absurd (never refl b); touches = tt }) (λ _. gone refl refl tt);
+        readsAgain = λ e. picked Marks (eqb (entry z s (t .chunk) (t .entry) .handle .0) (t .old .0)) (λ _. keeps-on 18 19 e (omega arith) (omega arith) (omega arith)) (λ _. gone refl refl tt);
+        endsRemove = λ _. gone refl refl tt;
+        scans = λ e. let H = holds-at 22 e (omega arith) in picked Marks (leb (t .argument) (t .key)) (λ _. gone refl refl tt) (λ _. picked Marks (ltb (firstPresent z s (locate z s (t .key)) (t .key) (t .argument) .0) (z .entries)) (λ _. gone (eqb-true _ _ (H .old)) (eqb-true _ _ (H .new)) tt) (λ _. picked Marks (ltb (chunk s (locate z s (t .key)) .next .0) (z .chunks)) (λ _. gone (eqb-true _ _ (H .old)) (eqb-true _ _ (H .new)) tt) (λ _. gone refl refl tt)));
+        stays = λ _. record { old = λ ts. marked .old-deleted n; new = λ ts. marked .new-written n; touches = tt };
+      })

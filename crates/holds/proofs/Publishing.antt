@@ -1,24 +1,24 @@
 -- Each stage of a task: who publishes, and that a named entry is linked.
-use Prim.Native.Nat.{ℕ, zero, suc, _+_, _≤_, _<_}
-use mathlib.Core.Path.{_≡_, refl, sym, ap, _∙_}
-use mathlib.Core.Logic.{_⊎_, inl, inr, ⊎-elim, ⊎-map, _≢_}
-use mathlib.Core.Bool.{Bool, true, false}
-use mathlib.Core.List.{List, List·Memᴰ}
+use Prim.Native.Nat.{ℕ, _<_}
+use mathlib.Core.Path.{_≡_, refl, sym, _∙_}
+use mathlib.Core.Logic.{_⊎_, inl, inr, _≢_}
+use mathlib.Core.List.{List·Memᴰ}
 use native.Mathlib.Omega.{arith}
 use lib.Dec.{eqb, ltb, leb}
-use borrow.Author.Tests.{ltb-true, eqb-true}
+use borrow.Author.Tests.{ltb-true, eqb-true, eqb-false}
 use Rattle.rules.specs.declared.Sizes.{Sizes}
 use Rattle.rules.specs.declared.Task.{Task}
 use Rattle.rules.specs.declared.HandleNo.{HandleNo}
 use Rattle.rules.specs.declared.Decision.{Decision}
 use Rattle.rules.specs.declared.Write.{Write}
 use Rattle.rules.specs.declared.Write.the-variants as write
-use Rattle.rules.specs.Words.{pick, _or_, NONE, noHandle, get, put, putIfAbsent, compute, remove, inserts}
-use Rattle.rules.specs.Tables.{Tables, chunk, entry, mark, task}
-use Rattle.rules.specs.Walks.{locate, find, linked, lowestFree, firstPresent}
+use Rattle.rules.specs.Words.{noHandle, get, put, putIfAbsent, remove, inserts}
+use Rattle.rules.specs.Tables.{Tables, chunk, entry, mark}
+use Rattle.rules.specs.Walks.{locate, linked, lowestFree, firstPresent}
 use Rattle.rules.specs.Stages
-use Rattle.laws.proofs.Tests.{picked, or-cases}
-use Rattle.facts.specs.Facts.{Limited, Tabled, Holds, holdAt, Tasked}
+use Rattle.laws.proofs.EachStage.{each-stage}
+use Rattle.laws.proofs.Tests.{picked}
+use Rattle.facts.specs.Facts.{Holds, holdAt, Tasked}
 use Rattle.facts.proofs.Numbers.{holding}
 
 -- a naming write is of a linked entry
@@ -40,11 +40,8 @@ module _ (z : Sizes) (s : Tables) (t : Task) (r : Tasked z (s .chunks) (s .entri
   holds-at : (m : ℕ) → t .stage ≡ m → m ≢ 0 → Holds z t (holdAt m)
   holds-at = holding z (s .chunks) (s .entries) t r
 
-  zero-one : _≡_ {A = ℕ} 0 1 → ⊥
-  zero-one q = omega arith
-
   quiet : {x : Decision} → x .task .published ≡ 0 → NamesLinked z s (x .write) → Publishes x
-  quiet e w = record { publishes = λ q. absurd (zero-one (sym e ∙ q)); names = w }
+  quiet e w = record { publishes = λ q. absurd (eqb-false 0 1 refl (sym e ∙ q)); names = w }
 
   still : {x : Decision} → x .task .published ≡ t .published → x .task .chunk ≡ t .chunk → NamesLinked z s (x .write) → Publishes x
   still e c w = record { publishes = λ q. (c, inl (sym e ∙ q)); names = w }
@@ -70,29 +67,25 @@ module _ (z : Sizes) (s : Tables) (t : Task) (r : Tasked z (s .chunks) (s .entri
   swaps-at (inr (inr e)) h = let H = holds-at 20 e (omega arith) in swaps-so h (eqb-true _ _ (H .published)) (ltb-true _ _ (H .entry)) (rw e (omega arith))
 
   pub decides-publish : Publishes (Stages.decide z s t)
-  unfolding Stages.stageDoes
   decides-publish =
-      picked P (eqb m 1 or eqb m 16) (λ _. quiet refl tt)
-      (λ _. picked P (eqb m 2) (λ _. picked Publishes (Stages.hasKey z s t) (λ _. quiet refl tt) (λ _. picked Publishes (inserts (t .operation)) (λ _. still refl refl tt) (λ _. quiet refl tt)))
-      (λ _. picked P (eqb m 3) (λ _. picked Publishes (ltb (entry z s (t .chunk) (t .entry) .handle .0) (z .handles)) (λ _. quiet refl tt) (λ _. picked Publishes (inserts (t .operation)) (λ _. still refl refl tt) (λ _. quiet refl tt)))
-      (λ _. picked P (eqb m 4) (λ _. picked Publishes (eqb (mark s (t .old)) 0) (λ _. picked Publishes (eqb (t .operation) get) (λ _. quiet refl tt) (λ _. picked Publishes (eqb (t .operation) putIfAbsent) (λ _. quiet refl tt) (λ _. still refl refl tt))) (λ _. picked Publishes (eqb (t .operation) get) (λ _. quiet refl tt) (λ _. still refl refl tt)))
-      (λ _. picked P (eqb m 5) (λ _. picked Publishes (eqb (mark s (t .old)) 0) (λ _. picked Publishes (eqb (t .operation) remove) (λ _. quiet refl tt) (λ _. picked Publishes (eqb (t .operation) put) (λ _. quiet refl tt) (λ _. quiet refl tt))) (λ _. picked Publishes (inserts (t .operation)) (λ _. quiet refl tt) (λ _. still refl refl tt)))
-      (λ _. picked P (eqb m 6) (λ _. picked Publishes (eqb (chunk s (t .chunk) .frozen) 0) (λ _. picked Publishes (ltb (chunk s (t .chunk) .used) (z .entries)) (λ _. quiet refl tt) (λ _. quiet refl tt)) (λ _. quiet refl tt))
-      (λ _. picked P (eqb m 7) (λ _. picked Publishes (eqb (chunk s (t .chunk) .frozen) 0) (λ _. picked Publishes (Stages.hasOther z s t) (λ _. quiet refl tt) (λ _. still refl refl tt)) (λ _. quiet refl tt))
-      (λ _. picked P (eqb m 8) (λ _. picked Publishes (ltb (lowestFree z s .0) (z .handles)) (λ _. quiet refl tt) (λ _. quiet refl tt))
-      (λ _. picked P (eqb m 9) (λ _. still refl refl tt)
-      (λ _. picked P (eqb m 10 or eqb m 13 or eqb m 19) (λ e. publishes-so (chunk-in (⊎-map (eqb-true m 10) (λ o. ⊎-map (eqb-true m 13) (eqb-true m 19) (or-cases _ _ o)) (or-cases _ _ e))))
-      (λ _. picked P (eqb m 11) (λ e. swaps-at (inl (eqb-true m 11 e)) (t .new))
-      (λ _. picked P (eqb m 14 or eqb m 20) (λ e. swaps-at (inr (⊎-map (eqb-true m 14) (eqb-true m 20) (or-cases _ _ e))) noHandle)
-      (λ _. picked P (eqb m 12) (λ _. picked Publishes (Stages.swapFailed z s t) (λ _. quiet refl tt) (λ _. quiet refl tt))
-      (λ _. picked P (eqb m 15) (λ _. picked Publishes (Stages.swapFailed z s t) (λ _. quiet refl tt) (λ _. quiet refl tt))
-      (λ _. picked P (eqb m 17) (λ _. picked Publishes (Stages.hasKey z s t) (λ _. quiet refl tt) (λ _. quiet refl tt))
-      (λ _. picked P (eqb m 18) (λ _. picked Publishes (eqb (entry z s (t .chunk) (t .entry) .handle .0) (t .old .0)) (λ _. still refl refl tt) (λ _. quiet refl tt))
-      (λ _. picked P (eqb m 21) (λ _. quiet refl tt)
-      (λ _. picked P (eqb m 22) (λ _. picked Publishes (leb (t .argument) (t .key)) (λ _. quiet refl tt) (λ _. picked Publishes (ltb (firstPresent z s (locate z s (t .key)) (t .key) (t .argument) .0) (z .entries)) (λ _. still refl refl tt) (λ _. picked Publishes (ltb (chunk s (locate z s (t .key)) .next .0) (z .chunks)) (λ _. still refl refl tt) (λ _. quiet refl tt)))) (λ _. still refl refl tt))))))))))))))))))
-    where
-      m : ℕ
-      m = t .stage
-
-      P : (Sizes → Tables → Task → Decision) → Type 0
-      P f = Publishes (f z s t)
+      each-stage z s t Publishes (record {
+        locates = λ _. quiet refl tt;
+        finds = λ _. picked Publishes (Stages.hasKey z s t) (λ _. quiet refl tt) (λ _. picked Publishes (inserts (t .operation)) (λ _. still refl refl tt) (λ _. quiet refl tt));
+        reads = λ _. picked Publishes (ltb (entry z s (t .chunk) (t .entry) .handle .0) (z .handles)) (λ _. quiet refl tt) (λ _. picked Publishes (inserts (t .operation)) (λ _. still refl refl tt) (λ _. quiet refl tt));
+        checks = λ _. picked Publishes (eqb (mark s (t .old)) 0) (λ _. picked Publishes (eqb (t .operation) get) (λ _. quiet refl tt) (λ _. picked Publishes (eqb (t .operation) putIfAbsent) (λ _. quiet refl tt) (λ _. still refl refl tt))) (λ _. picked Publishes (eqb (t .operation) get) (λ _. quiet refl tt) (λ _. still refl refl tt));
+        applies = λ _. picked Publishes (eqb (mark s (t .old)) 0) (λ _. picked Publishes (eqb (t .operation) remove) (λ _. quiet refl tt) (λ _. picked Publishes (eqb (t .operation) put) (λ _. quiet refl tt) (λ _. quiet refl tt))) (λ _. picked Publishes (inserts (t .operation)) (λ _. quiet refl tt) (λ _. still refl refl tt));
+        takesEntry = λ _. picked Publishes (eqb (chunk s (t .chunk) .frozen) 0) (λ _. picked Publishes (ltb (chunk s (t .chunk) .used) (z .entries)) (λ _. quiet refl tt) (λ _. quiet refl tt)) (λ _. quiet refl tt);
+        links = λ _. picked Publishes (eqb (chunk s (t .chunk) .frozen) 0) (λ _. picked Publishes (Stages.hasOther z s t) (λ _. quiet refl tt) (λ _. still refl refl tt)) (λ _. quiet refl tt);
+        takesHandle = λ _. picked Publishes (ltb (lowestFree z s .0) (z .handles)) (λ _. quiet refl tt) (λ _. quiet refl tt);
+        writes = λ _. still refl refl tt;
+        publishes = λ e. publishes-so (chunk-in e);
+        swaps = λ e. swaps-at (inl e) (t .new);
+        clears = λ e. swaps-at (inr e) noHandle;
+        endsInsertion = λ _. picked Publishes (Stages.swapFailed z s t) (λ _. quiet refl tt) (λ _. quiet refl tt);
+        endsAbsent = λ _. picked Publishes (Stages.swapFailed z s t) (λ _. quiet refl tt) (λ _. quiet refl tt);
+        findsAgain = λ _. picked Publishes (Stages.hasKey z s t) (λ _. quiet refl tt) (λ _. quiet refl tt);
+        readsAgain = λ _. picked Publishes (eqb (entry z s (t .chunk) (t .entry) .handle .0) (t .old .0)) (λ _. still refl refl tt) (λ _. quiet refl tt);
+        endsRemove = λ _. quiet refl tt;
+        scans = λ _. picked Publishes (leb (t .argument) (t .key)) (λ _. quiet refl tt) (λ _. picked Publishes (ltb (firstPresent z s (locate z s (t .key)) (t .key) (t .argument) .0) (z .entries)) (λ _. still refl refl tt) (λ _. picked Publishes (ltb (chunk s (locate z s (t .key)) .next .0) (z .chunks)) (λ _. still refl refl tt) (λ _. quiet refl tt)));
+        stays = λ _. still refl refl tt;
+      })

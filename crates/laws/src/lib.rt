@@ -1,1 +1,1 @@
-// No function: laws of tests and lists, in proofs/.
+// No function: laws of tests, of lists and of the stages, in proofs/.

@@ -2,28 +2,27 @@
 use Prim.Native.Nat.{ℕ, _<_}
 use mathlib.Core.Path.{_≡_, refl, sym, ap, _∙_}
 use mathlib.Core.Logic.{_⊎_, inl, inr, ⊎-elim, _≢_}
+use mathlib.Core.Bool.{true}
 use mathlib.Core.List.{List}
 use native.Mathlib.Decide.{ℕ-discrete, decLt}
-use native.Mathlib.Nat.{le-refl}
 use native.Mathlib.Omega.{arith}
-use lib.Dec.{ltb}
-use lib.ListN.{length, getD, set, List·getD-eq-default}
+use lib.Dec.{eqb, ltb}
+use lib.ListN.{length, getD, set}
 use lib.Seq.{getD-set-same, getD-set-other, set-out}
+use borrow.Author.Tests.{eqb-true, eqb-false}
 use Rattle.rules.specs.declared.Sizes.{Sizes}
 use Rattle.rules.specs.declared.Task.{Task}
-use Rattle.rules.specs.declared.Entry.{Entry}
 use Rattle.rules.specs.declared.ChunkNo.{ChunkNo}
 use Rattle.rules.specs.declared.EntryNo.{EntryNo}
 use Rattle.rules.specs.declared.HandleNo.{HandleNo}
 use Rattle.rules.specs.declared.Decision.{Decision}
 use Rattle.rules.specs.declared.Write.{Write}
 use Rattle.rules.specs.declared.Write.the-variants as write
-use Rattle.rules.specs.Words.{NONE, handleNo, noHandle, live}
-use Rattle.rules.specs.Tables.{Tables, idleTask, chunk, entry, task, withTasks}
+use Rattle.rules.specs.Words.{NONE, handleNo, live}
+use Rattle.rules.specs.Tables.{Tables, chunk, entry, task, withTasks}
 use Rattle.rules.specs.Stages
-use Rattle.laws.proofs.Tests.{picked}
-use Rattle.views.proofs.Rows.{entry-put}
-use Rattle.facts.specs.Facts.{Limited, Allowed, Kept}
+use Rattle.laws.proofs.Tests.{picked, and-left, and-right}
+use Rattle.facts.specs.Facts.{Limited, Kept}
 use Rattle.facts.specs.Reached.{Reached}
 use Rattle.facts.proofs.Reaching.{reached-kept}
 use Rattle.handles.specs.Owned.{Row}
@@ -32,10 +31,9 @@ use Rattle.holds.specs.Unlinked.{UnlinkedNone}
 use Rattle.holds.proofs.Holding.{reached-held}
 use Rattle.holds.proofs.Unlinked.{reached-unlinked}
 use Rattle.simulation.specs.Named.{LiveNamed}
-use Rattle.simulation.proofs.Acts.{Still, Swaps, Acts}
-use Rattle.simulation.proofs.Rows.{RowKept, frame}
+use Rattle.simulation.proofs.Rows.{RowKept, Renamed, row-step}
 use Rattle.simulation.proofs.Living
-use Rattle.removers.proofs.Late.{Sets}
+use Rattle.removers.proofs.Late.{sets}
 
 -- ---- the handles' records
 -- a mark of 1 was 1, or was written
@@ -43,25 +41,16 @@ mark-of : (l : List ℕ) (i v j : ℕ) → getD (set l i v) j 0 ≡ 1 → (getD 
 mark-of l i v j m = elim (ℕ-discrete j i) [ yes e ↦ elim (decLt i (length l)) [ yes b ↦ inr (e, sym (getD-set-same l i v 0 b) ∙ ap (λ (n : ℕ). getD (set l i v) n 0) (sym e) ∙ m) | no out ↦ inl (rw (set-out l i v (omega arith)) at m) ] | no ne ↦ inl (sym (getD-set-other l i j v 0 ne) ∙ m) ]
 
 -- a deleted handle was deleted, or the write deletes it and its task holds it at 16
-pub mark-then : (z : Sizes) (s : Tables) (y : Task) (w : Write) → Sets y w → (h : ℕ) → getD (Stages.apply z s w .marks) h 0 ≡ 1 → (getD (s .marks) h 0 ≡ 1) ⊎ ((y .stage ≡ 16) × (y .old .0 ≡ h))
+pub mark-then : (z : Sizes) (s : Tables) (y : Task) (w : Write) → sets y w ≡ true → (h : ℕ) → getD (Stages.apply z s w .marks) h 0 ≡ 1 → (getD (s .marks) h 0 ≡ 1) ⊎ ((y .stage ≡ 16) × (y .old .0 ≡ h))
 mark-then z s y write.Nothing u h m = inl m
 mark-then z s y (write.Slot c k) u h m = inl m
 mark-then z s y (write.Link c e before) u h m = inl (picked (λ (x : Tables). getD (x .marks) h 0 ≡ 1 → getD (s .marks) h 0 ≡ 1) (ltb (before .0) (z .entries)) (λ _ q. q) (λ _ q. q) m)
-mark-then z s y (write.Fresh g) u h m = ⊎-elim inl (λ e. absurd (never (e .1))) (mark-of (s .marks) (g .0) 0 h m)
-  where
-    never : _≡_ {A = ℕ} 0 1 → ⊥
-    never e = omega arith
+mark-then z s y (write.Fresh g) u h m = ⊎-elim inl (λ e. absurd (eqb-false 0 1 refl (e .1))) (mark-of (s .marks) (g .0) 0 h m)
 mark-then z s y (write.Store g v) u h m = inl m
-mark-then z s y (write.Delete g) u h m = ⊎-elim inl (λ e. inr (u .0, ap (λ (h : HandleNo). h .0) (u .1) ∙ sym (e .0))) (mark-of (s .marks) (g .0) 1 h m)
+mark-then z s y (write.Delete g) u h m = ⊎-elim inl (λ e. inr (eqb-true _ _ (and-left _ _ u), eqb-true _ _ (and-right (eqb (y .stage) 16) _ u) ∙ sym (e .0))) (mark-of (s .marks) (g .0) 1 h m)
 mark-then z s y (write.Name c e g) u h m = inl m
 
 -- ---- the rows
--- the row that a swap of the task has written, to none or to a new handle
-pub record Renamed (z : Sizes) (s : Tables) (t : Task) (c : ChunkNo) (e : EntryNo) (y : Entry) : Type 0 where
-  pub swaps : Swaps z s t
-  pub chunk : c ≡ t .chunk
-  pub to : (y .handle .0 ≡ NONE) ⊎ ((y .handle .0 ≡ t .new .0) × (t .new .0 < z .handles) × (t .swapped ≡ 0))
-
 module _ (z : Sizes) (lim : Limited z) (s : Tables) (r : Reached z s) (n : ℕ) where
   abbrev kept : Kept z s
   kept = reached-kept z lim r
@@ -84,42 +73,14 @@ module _ (z : Sizes) (lim : Limited z) (s : Tables) (r : Reached z s) (n : ℕ) 
   abbrev pub s′ : Tables
   s′ = after (x .write)
 
-  -- a write that changes no name
-  still-row : (w : Write) → Still w → Allowed z (s .chunks) (s .entries) w → (c : ChunkNo) (e : EntryNo) → Row z c e → RowKept z (entry z s c e) (entry z (after w) c e)
-  still-row w v a c e at = frame z lim s kept ts (length (s .tasks)) {w = w} (Acts.still v (rw none refl)) a c e at (λ p. absurd (never (sym (ap (λ (t : Task). t .published) none) ∙ p)))
-    where
-      none : task s (length (s .tasks)) ≡ idleTask
-      none = List·getD-eq-default (s .tasks) idleTask (le-refl _)
-
-      never : _≡_ {A = ℕ} 0 1 → ⊥
-      never e = omega arith
-
-  name-row : (g : HandleNo) → Swaps z s t → (g .0 ≡ NONE) ⊎ ((g .0 ≡ t .new .0) × (t .new .0 < z .handles) × (t .swapped ≡ 0)) → (c : ChunkNo) (e : EntryNo) → Row z c e →
-      RowKept z (entry z s c e) (entry z (after (write.Name (t .chunk) (t .entry) g)) c e) ⊎ Renamed z s t c e (entry z (after (write.Name (t .chunk) (t .entry) g)) c e)
-  name-row g w to c e at =
-      entry-put z (s .entries) (t .chunk) (t .entry) (Stages.withHandle (entry z s (t .chunk) (t .entry)) g) c e (λ y. RowKept z (entry z s c e) y ⊎ Renamed z s t c e y) (kept .tables .entries-sized) (w .row .chunk) (w .row .entry) (at .entry)
-      (λ p q. inr (record { swaps = w; chunk = p; to = to })) (λ _. inl (refl, λ _. refl))
-
   -- a row names what it named, or is the one that a swap has written
-  row-step : {w : Write} → Acts z s t w → Allowed z (s .chunks) (s .entries) w → (c : ChunkNo) (e : EntryNo) → Row z c e → RowKept z (entry z s c e) (entry z (after w) c e) ⊎ Renamed z s t c e (entry z (after w) c e)
-  row-step (Acts.still {w = w} v u) a c e at = inl (still-row w v a c e at)
-  row-step (Acts.takes b u) a c e at = inl (refl, λ _. refl)
-  row-step (Acts.writes b q u) a c e at = inl (refl, λ _. refl)
-  row-step (Acts.stores v b q i u) a c e at = inl (refl, λ _. refl)
-  row-step (Acts.deletes b q i u) a c e at = inl (refl, λ _. refl)
-  row-step (Acts.names w b q le i u) a c e at = name-row (t .new) w (inr (refl, b, q)) c e at
-  row-step (Acts.drops w u) a c e at = name-row noHandle w (inl refl) c e at
-
   row-then : (c : ChunkNo) (e : EntryNo) → Row z c e → RowKept z (entry z s c e) (entry z s′ c e) ⊎ Renamed z s t c e (entry z s′ c e)
-  row-then = row-step (Living.acts z lim s kept n) (Living.allowed z lim s kept n)
+  row-then = row-step z lim s kept ts n (Living.acts z lim s kept n) (Living.allowed z lim s kept n)
 
   -- ---- a handle that is not the one that the step may swap in
   module _ (h : ℕ) (i : h < z .handles) (other : t .new .0 < z .handles → t .swapped ≡ 0 → h ≢ t .new .0) where
     not-renamed : (c : ChunkNo) (e : EntryNo) → entry z s′ c e .handle .0 ≡ h → Renamed z s t c e (entry z s′ c e) → ⊥
-    not-renamed c e q w = ⊎-elim (λ (p : entry z s′ c e .handle .0 ≡ NONE). none (sym q ∙ p)) (λ p. other (p .1) (p .2) (sym q ∙ p .0)) (w .to)
-      where
-        none : h ≡ NONE → ⊥
-        none p = omega (arith, lim .handles)
+    not-renamed c e q w = ⊎-elim (λ (p : entry z s′ c e .handle .0 ≡ NONE). omega (arith, lim .handles, sym q ∙ p)) (λ p. other (p .1) (p .2) (sym q ∙ p .0)) (w .to)
 
     -- the entry that names it afterwards named it before
     row-was : (c : ChunkNo) (e : EntryNo) → Row z c e → entry z s′ c e .handle .0 ≡ h → RowKept z (entry z s c e) (entry z s′ c e)

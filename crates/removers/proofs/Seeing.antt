@@ -5,7 +5,7 @@ use mathlib.Core.Logic.{_≢_}
 use mathlib.Core.List.{List·Memᴰ}
 use native.Mathlib.Decide.{ℕ-discrete}
 use native.Mathlib.Omega.{arith}
-use lib.Dec.{eqb, ltb}
+use lib.Dec.{eqb}
 use lib.ListN.{set}
 use borrow.Author.Tests.{ltb-true, ltb-false, eqb-true, eqb-false, eq-eqb}
 use Rattle.rules.specs.declared.Sizes.{Sizes}
@@ -19,6 +19,7 @@ use Rattle.rules.specs.Tables.{Tables, idleTask, chunk, entry, task, withTasks}
 use Rattle.rules.specs.Walks.{locate, find, linked}
 use Rattle.rules.specs.Stages
 use Rattle.rules.specs.Shape.{Hold}
+use Rattle.laws.proofs.EachStage.{at-stage}
 use Rattle.laws.proofs.Tests.{picked}
 use Rattle.views.proofs.Rows.{entry-put}
 use Rattle.views.proofs.Entries.{links-one}
@@ -37,7 +38,7 @@ use Rattle.simulation.proofs.Rows.{RowKept}
 use Rattle.simulation.proofs.Copied.{named-like}
 use Rattle.simulation.proofs.Living.{under}
 use Rattle.removers.specs.Removers.{NamedLive}
-use Rattle.removers.proofs.Late.{decides-late, does-at}
+use Rattle.removers.proofs.Late.{decides-late}
 use Rattle.removers.proofs.Naming.{live-was, row-on}
 
 -- remover-sees and remover-done, of one task's row
@@ -172,11 +173,11 @@ module _ (z : Sizes) (lim : Limited z) (s : Tables) (r : Reached z s) where
         unfolding Stages.stageDoes
         goes-on a b v =
             by-stage (GoesOn x) (t .stage) a b
-            (λ e. subst GoesOn (sym (does-at z s t 16 e)) (refl, omega arith, omega arith))
-            (λ e. subst GoesOn (sym (does-at z s t 17 e)) (picked GoesOn (Stages.hasKey z s t) (λ _. (refl, omega arith, omega arith)) (λ o. absurd (missed (p .chunk (omega arith)) (u .chunk (omega arith) (omega arith) v) (ltb-false _ _ o)))))
-            (λ e. subst GoesOn (sym (does-at z s t 18 e)) (picked GoesOn (eqb (entry z s (t .chunk) (t .entry) .handle .0) (t .old .0)) (λ _. (refl, omega arith, omega arith)) (λ o. absurd (eqb-false _ _ o (u .entry (omega arith) (omega arith) v)))))
-            (λ e. subst GoesOn (sym (does-at z s t 19 e)) (picked GoesOn (Stages.mayPublish z s t) (λ _. (refl, omega arith, omega arith)) (λ _. picked GoesOn (eqb (t .stage) 19) (λ _. (refl, omega arith, omega arith)) (λ o. absurd (eqb-false _ _ o e)))))
-            (λ e. subst GoesOn (sym (does-at z s t 20 e)) (picked GoesOn (Stages.stillNames z s t) (λ _. (refl, omega arith, omega arith)) (λ _. (refl, omega arith, omega arith))))
+            (λ e. at-stage z s t GoesOn 16 e (refl, omega arith, omega arith))
+            (λ e. at-stage z s t GoesOn 17 e (picked GoesOn (Stages.hasKey z s t) (λ _. (refl, omega arith, omega arith)) (λ o. absurd (missed (p .chunk (omega arith)) (u .chunk (omega arith) (omega arith) v) (ltb-false _ _ o)))))
+            (λ e. at-stage z s t GoesOn 18 e (picked GoesOn (eqb (entry z s (t .chunk) (t .entry) .handle .0) (t .old .0)) (λ _. (refl, omega arith, omega arith)) (λ o. absurd (eqb-false _ _ o (u .entry (omega arith) (omega arith) v)))))
+            (λ e. at-stage z s t GoesOn 19 e (picked GoesOn (Stages.mayPublish z s t) (λ _. (refl, omega arith, omega arith)) (λ _. picked GoesOn (eqb (t .stage) 19) (λ _. (refl, omega arith, omega arith)) (λ o. absurd (eqb-false _ _ o e)))))
+            (λ e. at-stage z s t GoesOn 20 e (picked GoesOn (Stages.stillNames z s t) (λ _. (refl, omega arith, omega arith)) (λ _. (refl, omega arith, omega arith))))
             (λ e. absurd (u .done e v))
 
         -- ---- and sees the entry
@@ -185,36 +186,21 @@ module _ (z : Sizes) (lim : Limited z) (s : Tables) (r : Reached z s) where
 
         sees-16 : t .stage ≡ 16 → SeesThen x
         unfolding Stages.stageDoes
-        sees-16 e = subst SeesThen (sym (does-at z s t 16 e)) (record { chunk = λ _ _ v. in-located (p .old) v; entry = λ a _. absurd (before a); done = λ q. absurd (apart q) })
-          where
-            before : 18 ≤ t .stage + 1 → ⊥
-            before a = omega arith
-
-            apart : t .stage + 1 ≡ 21 → ⊥
-            apart q = omega arith
+        sees-16 e = at-stage z s t SeesThen 16 e (record { chunk = λ _ _ v. in-located (p .old) v; entry = λ a _ _. omega arith; done = λ q _. omega arith })
 
         sees-17 : t .stage ≡ 17 → SeesThen x
         unfolding Stages.stageDoes
-        sees-17 e = subst SeesThen (sym (does-at z s t 17 e)) (picked SeesThen (Stages.hasKey z s t) (λ i. record { chunk = λ _ _ v. u .chunk (omega arith) (omega arith) v; entry = λ _ _ v. found (p .chunk (omega arith)) (u .chunk (omega arith) (omega arith) v) (ltb-true _ _ i); done = λ q. absurd (apart q) }) (λ _. sees-none z _ idleTask (λ a _. omega arith)))
-          where
-            apart : _≡_ {A = ℕ} 18 21 → ⊥
-            apart q = omega arith
+        sees-17 e = at-stage z s t SeesThen 17 e (picked SeesThen (Stages.hasKey z s t) (λ i. record { chunk = λ _ _ v. u .chunk (omega arith) (omega arith) v; entry = λ _ _ v. found (p .chunk (omega arith)) (u .chunk (omega arith) (omega arith) v) (ltb-true _ _ i); done = λ q _. omega arith }) (λ _. sees-none z _ idleTask (λ a _. omega arith)))
 
         sees-18 : t .stage ≡ 18 → SeesThen x
         unfolding Stages.stageDoes
-        sees-18 e = subst SeesThen (sym (does-at z s t 18 e)) (picked SeesThen (eqb (entry z s (t .chunk) (t .entry) .handle .0) (t .old .0)) (λ q. record { chunk = λ _ _ v. u .chunk (omega arith) (omega arith) v; entry = λ _ _ _. eqb-true _ _ q; done = λ q. absurd (apart q) }) (λ _. sees-none z _ idleTask (λ a _. omega arith)))
-          where
-            apart : _≡_ {A = ℕ} 19 21 → ⊥
-            apart q = omega arith
+        sees-18 e = at-stage z s t SeesThen 18 e (picked SeesThen (eqb (entry z s (t .chunk) (t .entry) .handle .0) (t .old .0)) (λ q. record { chunk = λ _ _ v. u .chunk (omega arith) (omega arith) v; entry = λ _ _ _. eqb-true _ _ q; done = λ q _. omega arith }) (λ _. sees-none z _ idleTask (λ a _. omega arith)))
 
         sees-19 : t .stage ≡ 19 → SeesThen x
         unfolding Stages.stageDoes
         sees-19 e =
-            subst SeesThen (sym (does-at z s t 19 e)) (picked SeesThen (Stages.mayPublish z s t) (λ _. record { chunk = λ _ _ v. u .chunk (omega arith) (omega arith) v; entry = λ _ _ v. u .entry (omega arith) (omega arith) v; done = λ q. absurd (apart q) })
+            at-stage z s t SeesThen 19 e (picked SeesThen (Stages.mayPublish z s t) (λ _. record { chunk = λ _ _ v. u .chunk (omega arith) (omega arith) v; entry = λ _ _ v. u .entry (omega arith) (omega arith) v; done = λ q _. omega arith })
             (λ _. picked SeesThen (eqb (t .stage) 19) (λ _. sees-none z _ _ (λ a _. omega arith)) (λ _. sees-none z _ _ (λ a _. omega arith))))
-          where
-            apart : t .stage + 1 ≡ 21 → ⊥
-            apart q = omega arith
 
         -- the swap to none leaves no live chunk that names the handle
         sees-20 : t .stage ≡ 20 → SeesThen x
@@ -222,7 +208,7 @@ module _ (z : Sizes) (lim : Limited z) (s : Tables) (r : Reached z s) where
         sees-20 e = record { chunk = λ _ b. absurd (over b); entry = λ _ b. absurd (over b); done = λ _ v. gone (subst (λ (h : HandleNo). NamedLive z s′ (h .0)) (row .1) v) }
           where
             row : (x .task .stage ≡ 21) × (x .task .old ≡ t .old)
-            row = subst (λ (y : Decision). (y .task .stage ≡ 21) × (y .task .old ≡ t .old)) (sym (does-at z s t 20 e)) (picked (λ (y : Decision). (y .task .stage ≡ 21) × (y .task .old ≡ t .old)) (Stages.stillNames z s t) (λ _. (omega arith, refl)) (λ _. (omega arith, refl)))
+            row = at-stage z s t (λ (y : Decision). (y .task .stage ≡ 21) × (y .task .old ≡ t .old)) 20 e (picked (λ (y : Decision). (y .task .stage ≡ 21) × (y .task .old ≡ t .old)) (Stages.stillNames z s t) (λ _. (omega arith, refl)) (λ _. (omega arith, refl)))
 
             over : x .task .stage ≤ 20 → ⊥
             over b = omega (arith, row .0)
@@ -231,7 +217,7 @@ module _ (z : Sizes) (lim : Limited z) (s : Tables) (r : Reached z s) where
             at = record { chunk = p .chunk (omega arith); entry = p .entry (omega arith) }
 
             dropped : entry z s (t .chunk) (t .entry) .handle .0 ≡ t .old .0 → entry z s′ (t .chunk) (t .entry) .handle .0 ≡ NONE
-            dropped q = subst (λ (y : Decision). entry z (after y) (t .chunk) (t .entry) .handle .0 ≡ NONE) (sym (does-at z s t 20 e)) (rw (eq-eqb _ _ q) (entry-put z (s .entries) (t .chunk) (t .entry) (Stages.withHandle (entry z s (t .chunk) (t .entry)) noHandle) (t .chunk) (t .entry) (λ y. y .handle .0 ≡ NONE) (kept .tables .entries-sized) (at .chunk) (at .entry) (at .entry) (λ _ _. refl) (λ ne. absurd (ne refl refl))))
+            dropped q = at-stage z s t (λ (y : Decision). entry z (after y) (t .chunk) (t .entry) .handle .0 ≡ NONE) 20 e (rw (eq-eqb _ _ q) (entry-put z (s .entries) (t .chunk) (t .entry) (Stages.withHandle (entry z s (t .chunk) (t .entry)) noHandle) (t .chunk) (t .entry) (λ y. y .handle .0 ≡ NONE) (kept .tables .entries-sized) (at .chunk) (at .entry) (at .entry) (λ _ _. refl) (λ ne. absurd (ne refl refl))))
 
             gone : NamedLive z s′ (t .old .0) → ⊥
             gone v = omega (arith, lim .handles, p .old, q, dropped q, ap (λ (h : HandleNo). h .0) (row-stays n (p .old) v (t .chunk) (t .entry) at q .0))

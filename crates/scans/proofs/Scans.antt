@@ -13,7 +13,7 @@ use Rattle.rules.specs.declared.Decision.{Decision}
 use Rattle.rules.specs.declared.Report.the-variants as report
 use Rattle.rules.specs.Words.{scan}
 use Rattle.rules.specs.Told.{Told, tells, told}
-use Rattle.rules.specs.Tables.{Tables, task}
+use Rattle.rules.specs.Tables.{task}
 use Rattle.rules.specs.Walks.{Present}
 use Rattle.rules.specs.Stages
 use Rattle.rules.specs.Rebalance.{Outcome}
@@ -26,7 +26,7 @@ use Rattle.simulation.proofs.Simulating.{simulates}
 use Rattle.history.specs.Runs.{tablesAt, mapAt, reportAt, taskAt, Working}
 use Rattle.history.specs.Turns.{Turn, Steps, Came}
 use Rattle.history.specs.Answers.{isAnswer, NeverDecides}
-use Rattle.history.proofs.Runs.{run-beside, run-kept, run-turns, tables-next, came}
+use Rattle.history.proofs.Runs.{run-beside, run-kept, run-turns, row-next, earlier, came}
 use Rattle.scans.specs.Scans.{GivesAt, During, Given, Scans}
 use Rattle.scans.specs.Scanned.{Clear, Always, Scanning, Scanned}
 use Rattle.scans.proofs.Steps.{scan-by}
@@ -45,14 +45,6 @@ module _ (z : Sizes) (lim : Limited z) (run : ℕ → Call) where
       go (some v) e = f v (simulates z lim .shows (tablesAt z run i) (mapAt z run i) (run-beside z run i) q v .1 e)
 
   module _ (n : ℕ) where
-    -- the row after one more call
-    row-next : (i : ℕ) {t : Task} → task (calls z (tablesAt z run i) (run i) .tables) n ≡ t → taskAt z run (suc i) n ≡ t
-    row-next i e = ap (λ (s : Tables). task s n) (tables-next z run i) ∙ e
-
-    -- an operation at work was at work before
-    earlier : {op k a f j i : ℕ} → Working z run n op k a f j i → (x : ℕ) → j < x → x ≤ i → Working z run n op k a f j x
-    earlier w x after le = record { call = w .call; taken = w .taken; before = after; on = λ y since to. w .on y since (le-trans to le) }
-
     -- moment i of a step of the task is one of its moments
     now : (j i : ℕ) → j < i → run i ≡ step n → During z run n j i i
     now j i lt own = record { first = i; since = lt; own = own; from = omega arith; to = omega arith }
@@ -120,7 +112,7 @@ module _ (z : Sizes) (lim : Limited z) (run : ℕ → Call) where
           ((q v : ℕ) → GivesAt z run n i q v → q < c) →
           ((q : ℕ) → row i .key ≤ q → q < c → q < a → Always z run n j (suc i) q → Given z run n j (suc i) q) → ScannedAt (suc i)
       rises i c h is le gives past =
-          subst (Scanned z run n k a j (suc i)) (sym (row-next i is))
+          subst (Scanned z run n k a j (suc i)) (sym (row-next z run lim n i ∙ is))
           (record {
             stage = h .stage;
             argument = h .argument;
@@ -153,7 +145,7 @@ module _ (z : Sizes) (lim : Limited z) (run : ℕ → Call) where
                     | no ne ↦ found i p (here p always) (λ w present. absurd (clear p w present le (omega (arith, lt, ne))))
                   ]
           go (Scanning.passes c is le clear) = rises i c h (next is) le (gives is) (λ p low lt up always. found i p (here p always) (λ w present. absurd (clear p w present low lt (rw (h .argument) up))))
-          go (Scanning.ends is _) = absurd (busy (ap (λ (t : Task). t .stage) (row-next i (next is))))
+          go (Scanning.ends is _) = absurd (busy (ap (λ (t : Task). t .stage) (row-next z run lim n i ∙ next is)))
 
       -- ---- at every moment of a scan at work
       scanned : (i : ℕ) → Working z run n scan k a f j i → ScannedAt i
@@ -162,7 +154,7 @@ module _ (z : Sizes) (lim : Limited z) (run : ℕ → Call) where
         where
           go : Came z run n scan k a f j i → (Working z run n scan k a f j i → ScannedAt i) → ScannedAt (suc i)
           go (Came.begins e b) before =
-              subst (Scanned z run n k a j (suc i)) (sym (row-next i (b .row)))
+              subst (Scanned z run n k a j (suc i)) (sym (row-next z run lim n i ∙ b .row))
               (record { stage = refl; argument = refl; from = omega arith; below = λ x q v since lt g. absurd (omega (arith, e, since, lt)); given = λ q low up to always. absurd (omega (arith, low, up)) })
           go (Came.steps v b) before = step-scanned i (v .before) (before v) b (w .on (suc i) (w .before) (omega arith))
           go (Came.rests v b) before = rises i (row i .key) (before v) (b .row) (omega arith) (λ q u g. absurd (v .on i (v .before) (omega arith) (b .unstepped (g .own)))) (λ q low up to always. absurd (omega (arith, low, up)))
@@ -209,13 +201,13 @@ module _ (z : Sizes) (lim : Limited z) (run : ℕ → Call) where
 
     -- what was given was present at the step that gave it
     unseen : (k a f j i : ℕ) → Working z run n scan k a f j i → (q : ℕ) → ((p : ℕ) → During z run n j i p → lookup (mapAt z run p) q ≡ none) → Given z run n j i q → ⊥
-    unseen k a f j i w q never g = Option·none-ne-some _ (sym (never (g .at) during) ∙ is-present k a f j (g .at) (earlier w (g .at) (g .since) (omega (arith, g .before))) q (g .value) (g .gives))
+    unseen k a f j i w q never g = Option·none-ne-some _ (sym (never (g .at) during) ∙ is-present k a f j (g .at) (earlier z run lim n w (g .at) (g .since) (omega (arith, g .before))) q (g .value) (g .gives))
       where
         during : During z run n j i (g .at)
         during = record { first = g .at; since = g .since; own = g .gives .own; from = omega arith; to = omega (arith, g .before) }
 
     never-decides : (k a f j i : ℕ) → Working z run n scan k a f j i → NeverDecides z run n j i
-    never-decides k a f j i w x since le d = false≢true (sym (undeciding k a f j x (earlier w x since le)) ∙ d .deciding)
+    never-decides k a f j i w x since le d = false≢true (sym (undeciding k a f j x (earlier z run lim n w x since le)) ∙ d .deciding)
 
 pub scans : (z : Sizes) → Limited z → Scans z
 scans z lim =

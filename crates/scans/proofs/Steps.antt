@@ -1,6 +1,6 @@
 -- What a scan's step does, by what is present at its moment.
 use Prim.Native.Nat.{ℕ, _≤_, _<_}
-use mathlib.Core.Path.{_≡_, refl, sym, ap, _∙_, subst}
+use mathlib.Core.Path.{_≡_, refl, sym, ap, _∙_}
 use mathlib.Core.Bool.{true, false, false≢true}
 use mathlib.Core.List.{List·Memᴰ}
 use native.Mathlib.Nat.{le-trans}
@@ -19,6 +19,7 @@ use Rattle.rules.specs.Tables.{Tables, chunk, entry, value}
 use Rattle.rules.specs.Walks.{locate, linked, undeleted, firstPresent, Present}
 use Rattle.rules.specs.Stages
 use Rattle.laws.specs.Counts.{Every}
+use Rattle.laws.proofs.EachStage.{at-stage}
 use Rattle.laws.proofs.Tests.{picked, and-left, and-right}
 use Rattle.views.specs.Views.{Links, InRange}
 use Rattle.views.proofs.Entries.{links-length}
@@ -137,4 +138,4 @@ module _ (z : Sizes) (lim : Limited z) (s : Tables) (kept : Kept z s) (t : Task)
   -- what a task at 22 decides
   pub scan-by : t .stage ≡ 22 → By (Stages.decide z s t)
   unfolding Stages.stageDoes
-  scan-by q = subst (λ (n : ℕ). By (Stages.stageDoes n z s t)) (sym q) scans-by
+  scan-by q = at-stage z s t By 22 q scans-by

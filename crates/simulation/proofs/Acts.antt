@@ -1,23 +1,24 @@
 -- What a step's write may be, by the stage, and whether it decides.
 use Prim.Native.Nat.{ℕ, _≤_, _<_}
 use mathlib.Core.Path.{_≡_, refl, sym, _∙_}
-use mathlib.Core.Logic.{_⊎_, inl, inr, ⊎-elim, ⊎-map, _≢_}
-use mathlib.Core.Bool.{true, false, false≢true}
+use mathlib.Core.Logic.{_⊎_, inl, inr, ⊎-elim, _≢_}
+use mathlib.Core.Bool.{Bool, true, false, false≢true}
 use mathlib.Core.List.{List}
 use native.Mathlib.Omega.{arith}
-use lib.Dec.{eqb, ltb, leb}
+use lib.Dec.{eqb, ltb}
 use borrow.Author.Tests.{ltb-true, eqb-true}
 use Rattle.rules.specs.declared.Sizes.{Sizes}
 use Rattle.rules.specs.declared.Task.{Task}
 use Rattle.rules.specs.declared.Decision.{Decision}
 use Rattle.rules.specs.declared.Write.{Write}
 use Rattle.rules.specs.declared.Write.the-variants as write
-use Rattle.rules.specs.Words.{_and_, _or_, noHandle, get, put, putIfAbsent, upsert, compute, remove, inserts}
-use Rattle.rules.specs.Tables.{Tables, chunk, entry, mark, value}
-use Rattle.rules.specs.Walks.{locate, find, lowestFree, firstPresent}
+use Rattle.rules.specs.Words.{pick, _or_, noHandle, put, putIfAbsent, upsert, compute, remove}
+use Rattle.rules.specs.Tables.{Tables, entry, mark, value}
+use Rattle.rules.specs.Walks.{lowestFree}
 use Rattle.rules.specs.Stages
 use Rattle.rules.specs.Map.{Pair, insert, delete, effect, onAbsent, onPresent}
-use Rattle.laws.proofs.Tests.{picked, or-cases}
+use Rattle.laws.proofs.EachStage.{each-stage}
+use Rattle.laws.proofs.Tests.{picked, pick-of, pick-same, or-cases}
 use Rattle.facts.specs.Facts.{Holds, holdAt, Tasked}
 use Rattle.facts.specs.Simulates.{decides, changeAnswer}
 use Rattle.facts.proofs.Numbers.{holding}
@@ -25,14 +26,19 @@ use Rattle.facts.proofs.Operations.{fits-test}
 use Rattle.handles.specs.Owned.{Row}
 
 -- a write that changes no name and no handle's record
-abbrev pub Still : Write → Type 0
-Still write.Nothing = Unit {0}
-Still (write.Slot c k) = Unit {0}
-Still (write.Link c e before) = Unit {0}
-Still (write.Fresh h) = ⊥
-Still (write.Store h v) = ⊥
-Still (write.Delete h) = ⊥
-Still (write.Name c e h) = ⊥
+abbrev pub stills : Write → Bool
+stills write.Nothing = true
+stills (write.Slot c k) = true
+stills (write.Link c e before) = true
+stills (write.Fresh h) = false
+stills (write.Store h v) = false
+stills (write.Delete h) = false
+stills (write.Name c e h) = false
+
+still-of : (b : Bool) (x y : Decision) → stills (pick b x y .write) ≡ pick b (stills (x .write)) (stills (y .write))
+still-of = pick-of (λ (x : Decision). stills (x .write))
+
+ruleset stilled = (still-of, pick-same)
 
 -- a swap that succeeds: a publisher's entry names its old handle, or none where it holds none
 pub record Swaps (z : Sizes) (s : Tables) (t : Task) : Type 0 where
@@ -42,7 +48,7 @@ pub record Swaps (z : Sizes) (s : Tables) (t : Task) : Type 0 where
   pub names : entry z s (t .chunk) (t .entry) .handle .0 ≡ t .old .0
 
 pub data Acts (z : Sizes) (s : Tables) (t : Task) : Write → Type 0 where
-  still : {w : Write} → Still w → decides z s t ≡ false → Acts z s t w
+  still : {w : Write} → stills w ≡ true → decides z s t ≡ false → Acts z s t w
   -- 8: the lowest free handle
   takes : lowestFree z s .0 < z .handles → decides z s t ≡ false → Acts z s t (write.Fresh (lowestFree z s))
   -- 9: the argument to the handle taken
@@ -65,8 +71,8 @@ module _ (z : Sizes) (s : Tables) (t : Task) (r : Tasked z (s .chunks) (s .entri
   undecided : (m : ℕ) → t .stage ≡ m → eqb m 11 ≡ false → eqb m 5 ≡ false → decides z s t ≡ false
   undecided m e p q = rw (e, p, q) refl
 
-  quiet : (m : ℕ) → t .stage ≡ m → eqb m 11 ≡ false → eqb m 5 ≡ false → Acts z s t write.Nothing
-  quiet m e p q = Acts.still tt (undecided m e p q)
+  quiet : (m : ℕ) {w : Write} → t .stage ≡ m → eqb m 11 ≡ false → eqb m 5 ≡ false → stills w ≡ true → Acts z s t w
+  quiet m e p q v = Acts.still v (undecided m e p q)
 
   -- the operations that reach 11 and 5
   at-swap : t .stage ≡ 11 → (m : List Pair) → onAbsent m (t .operation) (t .key) (t .argument) (t .function) ≡ effect (changeAnswer (t .operation)) (insert m (t .key) (t .argument))
@@ -97,7 +103,7 @@ module _ (z : Sizes) (s : Tables) (t : Task) (r : Tasked z (s .chunks) (s .entri
       (λ d. picked By (eqb (t .operation) remove) (λ q. Acts.deletes b (eqb-true _ _ d) (λ m. rw (eqb-true (t .operation) remove q) refl) (rw (e, d) refl))
       (λ nr. picked By (eqb (t .operation) put) (λ q. Acts.stores (t .argument) b (eqb-true _ _ d) (λ m. rw (eqb-true (t .operation) put q) refl) (rw (e, d) refl))
       (λ np. Acts.stores (Stages.applied (t .function) (t .argument) (value s (t .old))) b (eqb-true _ _ d) (at-apply e nr np) (rw (e, d) refl))))
-      (λ d. picked By (inserts (t .operation)) (λ _. Acts.still tt (rw (e, d) refl)) (λ _. Acts.still tt (rw (e, d) refl)))
+      (λ d. Acts.still (simp stilled) (rw (e, d) refl))
 
   swaps-by : (m : ℕ) → t .stage ≡ m → (m ≢ 4) × (m ≢ 5) × (m ≢ 7) → Row z (t .chunk) (t .entry) → t .published ≡ 1 → entry z s (t .chunk) (t .entry) .handle .0 ≡ t .old .0 → Swaps z s t
   swaps-by m e p w q i = record { row = w; published = q; past = rw e p; names = i }
@@ -107,42 +113,35 @@ module _ (z : Sizes) (s : Tables) (t : Task) (r : Tasked z (s .chunks) (s .entri
       let H = holds-at 11 e (omega arith) in
       picked By (Stages.stillNames z s t)
       (λ i. Acts.names (swaps-by 11 e (omega arith, omega arith, omega arith) (record { chunk = ltb-true _ _ (H .chunk); entry = ltb-true _ _ (H .entry) }) (eqb-true _ _ (H .published)) (eqb-true _ _ i)) (ltb-true _ _ (H .new)) (eqb-true _ _ (H .swapped)) (rw e (omega arith)) (at-swap e) (rw (e, i) refl))
-      (λ i. Acts.still tt (rw (e, i) refl))
+      (λ i. Acts.still refl (rw (e, i) refl))
 
   clears-act : (m : ℕ) → t .stage ≡ m → eqb m 11 ≡ false → eqb m 5 ≡ false → (m ≢ 4) × (m ≢ 5) × (m ≢ 7) → Row z (t .chunk) (t .entry) → t .published ≡ 1 → By (Stages.swaps z s t noHandle)
-  clears-act m e p q ne w pub₁ = picked By (Stages.stillNames z s t) (λ i. Acts.drops (swaps-by m e ne w pub₁ (eqb-true _ _ i)) (undecided m e p q)) (λ _. quiet m e p q)
+  clears-act m e p q ne w pub₁ = picked By (Stages.stillNames z s t) (λ i. Acts.drops (swaps-by m e ne w pub₁ (eqb-true _ _ i)) (undecided m e p q)) (λ _. quiet m e p q refl)
 
   clears-at : (t .stage ≡ 14) ⊎ (t .stage ≡ 20) → By (Stages.swaps z s t noHandle)
   clears-at (inl e) = let H = holds-at 14 e (omega arith) in clears-act 14 e refl refl (omega arith, omega arith, omega arith) (record { chunk = ltb-true _ _ (H .chunk); entry = ltb-true _ _ (H .entry) }) (eqb-true _ _ (H .published))
   clears-at (inr e) = let H = holds-at 20 e (omega arith) in clears-act 20 e refl refl (omega arith, omega arith, omega arith) (record { chunk = ltb-true _ _ (H .chunk); entry = ltb-true _ _ (H .entry) }) (eqb-true _ _ (H .published))
 
-  publishes-act : Acts z s t write.Nothing → By (Stages.publishes z s t)
-  publishes-act q = picked By (Stages.mayPublish z s t) (λ _. q) (λ _. picked By (eqb (t .stage) 19) (λ _. q) (λ _. q))
-
   pub decides-act : By (Stages.decide z s t)
-  unfolding Stages.stageDoes
   decides-act =
-      picked P (eqb m 1 or eqb m 16) (λ e. ⊎-elim (λ o. quiet 1 (eqb-true m 1 o) refl refl) (λ o. quiet 16 (eqb-true m 16 o) refl refl) (or-cases _ _ e))
-      (λ _. picked P (eqb m 2) (λ e. let q = quiet 2 (eqb-true m 2 e) refl refl in picked By (Stages.hasKey z s t) (λ _. q) (λ _. picked By (inserts (t .operation)) (λ _. q) (λ _. q)))
-      (λ _. picked P (eqb m 3) (λ e. let q = quiet 3 (eqb-true m 3 e) refl refl in picked By (ltb (entry z s (t .chunk) (t .entry) .handle .0) (z .handles)) (λ _. q) (λ _. picked By (inserts (t .operation)) (λ _. q) (λ _. q)))
-      (λ _. picked P (eqb m 4) (λ e. let q = quiet 4 (eqb-true m 4 e) refl refl in picked By (eqb (mark s (t .old)) 0) (λ _. picked By (eqb (t .operation) get) (λ _. q) (λ _. picked By (eqb (t .operation) putIfAbsent) (λ _. q) (λ _. q))) (λ _. picked By (eqb (t .operation) get) (λ _. q) (λ _. q)))
-      (λ n5. picked P (eqb m 5) (λ e. applies-act (eqb-true m 5 e))
-      (λ n5. picked P (eqb m 6) (λ e. let u = undecided 6 (eqb-true m 6 e) refl refl in picked By (eqb (chunk s (t .chunk) .frozen) 0) (λ _. picked By (ltb (chunk s (t .chunk) .used) (z .entries)) (λ _. Acts.still tt u) (λ _. Acts.still tt u)) (λ _. Acts.still tt u))
-      (λ _. picked P (eqb m 7) (λ e. let u = undecided 7 (eqb-true m 7 e) refl refl in picked By (eqb (chunk s (t .chunk) .frozen) 0) (λ _. picked By (Stages.hasOther z s t) (λ _. Acts.still tt u) (λ _. Acts.still tt u)) (λ _. Acts.still tt u))
-      (λ _. picked P (eqb m 8) (λ e. let u = undecided 8 (eqb-true m 8 e) refl refl in picked By (ltb (lowestFree z s .0) (z .handles)) (λ i. Acts.takes (ltb-true _ _ i) u) (λ _. Acts.still tt u))
-      (λ _. picked P (eqb m 9) (λ e. let H = holds-at 9 (eqb-true m 9 e) (omega arith) in Acts.writes (ltb-true _ _ (H .new)) (eqb-true _ _ (H .swapped)) (undecided 9 (eqb-true m 9 e) refl refl))
-      (λ _. picked P (eqb m 10 or eqb m 13 or eqb m 19) (λ e. publishes-act (⊎-elim (λ o. quiet 10 (eqb-true m 10 o) refl refl) (λ o. ⊎-elim (λ v. quiet 13 (eqb-true m 13 v) refl refl) (λ v. quiet 19 (eqb-true m 19 v) refl refl) (or-cases _ _ o)) (or-cases _ _ e)))
-      (λ _. picked P (eqb m 11) (λ e. swaps-act (eqb-true m 11 e))
-      (λ n11. picked P (eqb m 14 or eqb m 20) (λ e. clears-at (⊎-map (eqb-true m 14) (eqb-true m 20) (or-cases _ _ e)))
-      (λ _. picked P (eqb m 12) (λ _. picked By (Stages.swapFailed z s t) (λ _. Acts.still tt (rw (n11, n5) refl)) (λ _. Acts.still tt (rw (n11, n5) refl)))
-      (λ _. picked P (eqb m 15) (λ _. picked By (Stages.swapFailed z s t) (λ _. Acts.still tt (rw (n11, n5) refl)) (λ _. Acts.still tt (rw (n11, n5) refl)))
-      (λ _. picked P (eqb m 17) (λ _. picked By (Stages.hasKey z s t) (λ _. Acts.still tt (rw (n11, n5) refl)) (λ _. Acts.still tt (rw (n11, n5) refl)))
-      (λ _. picked P (eqb m 18) (λ _. picked By (eqb (entry z s (t .chunk) (t .entry) .handle .0) (t .old .0)) (λ _. Acts.still tt (rw (n11, n5) refl)) (λ _. Acts.still tt (rw (n11, n5) refl)))
-      (λ _. picked P (eqb m 21) (λ _. Acts.still tt (rw (n11, n5) refl))
-      (λ _. picked P (eqb m 22) (λ _. picked By (leb (t .argument) (t .key)) (λ _. Acts.still tt (rw (n11, n5) refl)) (λ _. picked By (ltb (firstPresent z s (locate z s (t .key)) (t .key) (t .argument) .0) (z .entries)) (λ _. Acts.still tt (rw (n11, n5) refl)) (λ _. picked By (ltb (chunk s (locate z s (t .key)) .next .0) (z .chunks)) (λ _. Acts.still tt (rw (n11, n5) refl)) (λ _. Acts.still tt (rw (n11, n5) refl))))) (λ _. Acts.still tt (rw (n11, n5) refl)))))))))))))))))))
-    where
-      m : ℕ
-      m = t .stage
-
-      P : (Sizes → Tables → Task → Decision) → Type 0
-      P f = By (f z s t)
+      each-stage z s t By (record {
+        locates = ⊎-elim (λ e. quiet 1 e refl refl refl) (λ e. quiet 16 e refl refl refl);
+        finds = λ e. quiet 2 e refl refl (simp stilled);
+        reads = λ e. quiet 3 e refl refl (simp stilled);
+        checks = λ e. quiet 4 e refl refl (simp stilled);
+        applies = applies-act;
+        takesEntry = λ e. quiet 6 e refl refl (simp stilled);
+        links = λ e. quiet 7 e refl refl (simp stilled);
+        takesHandle = λ e. picked By (ltb (lowestFree z s .0) (z .handles)) (λ i. Acts.takes (ltb-true _ _ i) (undecided 8 e refl refl)) (λ _. quiet 8 e refl refl refl);
+        writes = λ e. let H = holds-at 9 e (omega arith) in Acts.writes (ltb-true _ _ (H .new)) (eqb-true _ _ (H .swapped)) (undecided 9 e refl refl);
+        publishes = ⊎-elim (λ e. quiet 10 e refl refl (simp stilled)) (⊎-elim (λ e. quiet 13 e refl refl (simp stilled)) (λ e. quiet 19 e refl refl (simp stilled)));
+        swaps = swaps-act;
+        clears = clears-at;
+        endsInsertion = λ e. quiet 12 e refl refl (simp stilled);
+        endsAbsent = λ e. quiet 15 e refl refl (simp stilled);
+        findsAgain = λ e. quiet 17 e refl refl (simp stilled);
+        readsAgain = λ e. quiet 18 e refl refl (simp stilled);
+        endsRemove = λ e. quiet 21 e refl refl refl;
+        scans = λ e. quiet 22 e refl refl (simp stilled);
+        stays = λ none. Acts.still refl (rw (none 11 refl, none 5 refl) refl);
+      })

@@ -2,7 +2,7 @@
 use Prim.Native.Nat.{ℕ, _≤_, _<_}
 use mathlib.Core.Path.{_≡_, refl, sym, ap, _∙_}
 use mathlib.Core.Logic.{_⊎_, inl, inr, ⊎-elim, _≢_}
-use mathlib.Core.Bool.{true, false, false≢true}
+use mathlib.Core.Bool.{true, false≢true}
 use mathlib.Core.List.{List}
 use mathlib.Core.Option.{Option, none, some, Option·none-ne-some, Option·some-injective}
 use native.Mathlib.Decide.{ℕ-discrete}
@@ -15,7 +15,7 @@ use Rattle.rules.specs.declared.Entry.{Entry}
 use Rattle.rules.specs.declared.Decision.{Decision}
 use Rattle.rules.specs.declared.Write.{Write}
 use Rattle.rules.specs.declared.Write.the-variants as write
-use Rattle.rules.specs.Words.{pick, _and_, _or_, live}
+use Rattle.rules.specs.Words.{pick, live}
 use Rattle.rules.specs.Tables.{Tables, chunk, entry, value, task}
 use Rattle.rules.specs.Stages
 use Rattle.rules.specs.Map.{Pair, Ascends, lookup, insert, delete, Effect, effect, sequential}
@@ -40,7 +40,8 @@ use Rattle.simulation.proofs.Showing.{row-named, named-one, present-one
 abbrev pub Sim : Sizes → Tables → List Pair → Type 0
 Sim z s m = (k v : ℕ) → (lookup m k ≡ some v → PresentBy z s k v) × (PresentBy z s k v → lookup m k ≡ some v)
 
-is-none : (o : Option ℕ) → ((v : ℕ) → o ≡ some v → ⊥) → o ≡ none
+-- an option of no value is none
+pub is-none : (o : Option ℕ) → ((v : ℕ) → o ≡ some v → ⊥) → o ≡ none
 is-none none f = refl
 is-none (some v) f = absurd (f v refl)
 

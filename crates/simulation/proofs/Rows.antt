@@ -1,8 +1,8 @@
 -- What a step leaves of the rows' names and of the handles' records, by what it does.
 use Prim.Native.Nat.{ℕ, _*_, _<_}
 use mathlib.Core.Path.{_≡_, refl, sym, ap, _∙_}
-use mathlib.Core.Logic.{_⊎_, inl, inr, _≢_}
-use mathlib.Core.Bool.{true}
+use mathlib.Core.Logic.{_⊎_, inl, inr, ⊎-elim, ⊎-map, _≢_}
+use mathlib.Core.Bool.{true, false≢true}
 use mathlib.Core.List.{List}
 use native.Mathlib.Nat.{le-trans}
 use native.Mathlib.Decide.{ℕ-discrete}
@@ -31,11 +31,19 @@ use Rattle.handles.specs.Owned.{Row, NamedUnder}
 use Rattle.handles.proofs.Free.{free-unnamed}
 use Rattle.handles.proofs.Owning.{OwnedBy}
 use Rattle.holds.specs.Marked.{Marked}
-use Rattle.simulation.proofs.Acts.{Still, Swaps, Acts}
+use Rattle.simulation.proofs.Acts.{stills, Swaps, Acts}
 
 -- the second row names what the first names, under the same key
 abbrev pub RowKept : Sizes → Entry → Entry → Type 0
 RowKept z x y = (y .handle ≡ x .handle) × (x .handle .0 < z .handles → y .key ≡ x .key)
+
+-- the row that a swap of the task has written, to none or to the new handle
+pub record Renamed (z : Sizes) (s : Tables) (t : Task) (c : ChunkNo) (e : EntryNo) (y : Entry) : Type 0 where
+  pub swaps : Swaps z s t
+  pub chunk : c ≡ t .chunk
+  pub entry : e ≡ t .entry
+  pub key : y .key ≡ entryAt z (s .entries) (t .chunk) (t .entry) .key
+  pub to : (y .handle .0 ≡ NONE) ⊎ ((y .handle .0 ≡ t .new .0) × (t .new .0 < z .handles) × (t .swapped ≡ 0) × (decides z s t ≡ true))
 
 -- the row that a deciding swap has written
 pub record NewAt (z : Sizes) (s : Tables) (t : Task) (c : ChunkNo) (e : EntryNo) (y : Entry) : Type 0 where
@@ -81,7 +89,7 @@ module _ (z : Sizes) (lim : Limited z) (s : Tables) (kept : Kept z s) (ts : List
             empty : entry z s c e ≡ emptyEntry
             empty = kept .tables .lists c (at .chunk) .slot e (at .entry) .empty (omega (arith, ap (λ (e : EntryNo). e .0) q, ap (λ (c : ChunkNo). chunk s c .used) p))
 
-    still-row : (w : Write) → Still w → Allowed z (s .chunks) (s .entries) w → Kept-as (entry z (after w) c e)
+    still-row : (w : Write) → stills w ≡ true → Allowed z (s .chunks) (s .entries) w → Kept-as (entry z (after w) c e)
     still-row write.Nothing v a = as-it-was
     still-row (write.Slot d k) v a = slot-row d k (a .0) (a .2)
     still-row (write.Link d f before) v a =
@@ -94,72 +102,62 @@ module _ (z : Sizes) (lim : Limited z) (s : Tables) (kept : Kept z s) (ts : List
 
         to : Row z d f
         to = record { chunk = w .numbered; entry = le-trans (w .used) (kept .tables .lists d (w .numbered) .row .used) }
-    still-row (write.Fresh h) v a = absurd v
-    still-row (write.Store h x) v a = absurd v
-    still-row (write.Delete h) v a = absurd v
-    still-row (write.Name d f h) v a = absurd v
+    still-row (write.Fresh h) v a = absurd (false≢true v)
+    still-row (write.Store h x) v a = absurd (false≢true v)
+    still-row (write.Delete h) v a = absurd (false≢true v)
+    still-row (write.Name d f h) v a = absurd (false≢true v)
 
-    -- a row that is not the one named
-    name-row : (d : ChunkNo) (f : EntryNo) (h : HandleNo) → Row z d f → (c ≡ d → e ≡ f → ⊥) → Kept-as (entryAt z (set (s .entries) (row z d f) (Stages.withHandle (entry z s d f) h)) c e)
-    name-row d f h to ne = entry-put z (s .entries) d f (Stages.withHandle (entry z s d f) h) c e Kept-as len (to .chunk) (to .entry) (at .entry) (λ p q. absurd (ne p q)) (λ _. as-it-was)
-
-  still-records : (w : Write) → Still w → (after w .marks ≡ s .marks) × (after w .values ≡ s .values)
+  still-records : (w : Write) → stills w ≡ true → (after w .marks ≡ s .marks) × (after w .values ≡ s .values)
   still-records write.Nothing v = (refl, refl)
   still-records (write.Slot d k) v = (refl, refl)
   still-records (write.Link d f before) v = picked (λ (x : Tables). (x .marks ≡ s .marks) × (x .values ≡ s .values)) (ltb (before .0) (z .entries)) (λ _. (refl, refl)) (λ _. (refl, refl))
-  still-records (write.Fresh h) v = absurd v
-  still-records (write.Store h x) v = absurd v
-  still-records (write.Delete h) v = absurd v
-  still-records (write.Name d f h) v = absurd v
+  still-records (write.Fresh h) v = absurd (false≢true v)
+  still-records (write.Store h x) v = absurd (false≢true v)
+  still-records (write.Delete h) v = absurd (false≢true v)
+  still-records (write.Name d f h) v = absurd (false≢true v)
 
   -- ---- a step of a task
   module _ (n : ℕ) where
     abbrev t : Task
     t = task s n
 
-    -- rows of chunks on which the task does not publish
-    pub frame : {w : Write} → Acts z s t w → Allowed z (s .chunks) (s .entries) w → (c : ChunkNo) (e : EntryNo) → Row z c e → (t .published ≡ 1 → c ≢ t .chunk) → RowKept z (entry z s c e) (entry z (after w) c e)
-    frame (Acts.still {w = w} v u) a c e at ne = still-row c e at w v a
-    frame (Acts.takes b u) a c e at ne = (refl, λ _. refl)
-    frame (Acts.writes b q u) a c e at ne = (refl, λ _. refl)
-    frame (Acts.stores v b q i u) a c e at ne = (refl, λ _. refl)
-    frame (Acts.deletes b q i u) a c e at ne = (refl, λ _. refl)
-    frame (Acts.names x b q le i u) a c e at ne = name-row c e at (t .chunk) (t .entry) (t .new) (x .row) (λ p _. ne (x .published) p)
-    frame (Acts.drops x u) a c e at ne = name-row c e at (t .chunk) (t .entry) noHandle (x .row) (λ p _. ne (x .published) p)
+    name-row : (g : HandleNo) → Swaps z s t → (g .0 ≡ NONE) ⊎ ((g .0 ≡ t .new .0) × (t .new .0 < z .handles) × (t .swapped ≡ 0) × (decides z s t ≡ true)) → (c : ChunkNo) (e : EntryNo) → Row z c e →
+        RowKept z (entry z s c e) (entry z (after (write.Name (t .chunk) (t .entry) g)) c e) ⊎ Renamed z s t c e (entry z (after (write.Name (t .chunk) (t .entry) g)) c e)
+    name-row g x to c e at =
+        entry-put z (s .entries) (t .chunk) (t .entry) (Stages.withHandle (entry z s (t .chunk) (t .entry)) g) c e (λ y. RowKept z (entry z s c e) y ⊎ Renamed z s t c e y) len (x .row .chunk) (x .row .entry) (at .entry)
+        (λ p q. inr (record { swaps = x; chunk = p; entry = q; key = refl; to = to })) (λ _. inl (refl, λ _. refl))
 
-    -- a row that names an undeleted handle
+    -- a row names what it named, or is the one that a swap has written
+    pub row-step : {w : Write} → Acts z s t w → Allowed z (s .chunks) (s .entries) w → (c : ChunkNo) (e : EntryNo) → Row z c e → RowKept z (entry z s c e) (entry z (after w) c e) ⊎ Renamed z s t c e (entry z (after w) c e)
+    row-step (Acts.still {w = w} v u) a c e at = inl (still-row c e at w v a)
+    row-step (Acts.takes b u) a c e at = inl (refl, λ _. refl)
+    row-step (Acts.writes b q u) a c e at = inl (refl, λ _. refl)
+    row-step (Acts.stores v b q i u) a c e at = inl (refl, λ _. refl)
+    row-step (Acts.deletes b q i u) a c e at = inl (refl, λ _. refl)
+    row-step (Acts.names x b q le i u) a c e at = name-row (t .new) x (inr (refl, b, q, u)) c e at
+    row-step (Acts.drops x u) a c e at = name-row noHandle x (inl refl) c e at
+
+    module _ {w : Write} (act : Acts z s t w) (a : Allowed z (s .chunks) (s .entries) w) (c : ChunkNo) (e : EntryNo) (at : Row z c e) where
+      -- rows of chunks on which the task does not publish
+      pub frame : (t .published ≡ 1 → c ≢ t .chunk) → RowKept z (entry z s c e) (entry z (after w) c e)
+      frame ne = ⊎-elim (λ k. k) (λ x. absurd (ne (x .swaps .published) (x .chunk))) (row-step act a c e at)
+
+      -- a row that names a handle afterwards named it before, or is the one that a deciding swap has written
+      pub row-back : entry z (after w) c e .handle .0 < z .handles → RowKept z (entry z s c e) (entry z (after w) c e) ⊎ NewAt z s t c e (entry z (after w) c e)
+      row-back b = ⊎-map (λ k. k) new-at (row-step act a c e at)
+        where
+          new-at : Renamed z s t c e (entry z (after w) c e) → NewAt z s t c e (entry z (after w) c e)
+          new-at x = ⊎-elim (λ (q : entry z (after w) c e .handle .0 ≡ NONE). absurd (out (rw q at b))) (λ q. record { swaps = x .swaps; chunk = x .chunk; entry = x .entry; handle = q .0; key = x .key; decided = q .3 }) (x .to)
+
+    -- a row that names an undeleted handle is not one that a swap writes
     pub row-then : Marked z s → {w : Write} → Acts z s t w → Allowed z (s .chunks) (s .entries) w → (c : ChunkNo) (e : EntryNo) → Row z c e → entry z s c e .handle .0 < z .handles → getD (s .marks) (entry z s c e .handle .0) 0 ≡ 0 → RowKept z (entry z s c e) (entry z (after w) c e)
-    row-then marked {w = w} act a c e at b m = go act a
+    row-then marked act a c e at b m = ⊎-elim (λ k. k) (λ x. absurd (other (x .swaps) (x .chunk) (x .entry))) (row-step act a c e at)
       where
-        -- a successful swap is of an entry that names a deleted handle, or none
         other : Swaps z s t → c ≡ t .chunk → e ≡ t .entry → ⊥
         other x p q = omega (arith, m, rw (← named) at (marked .old-deleted n (x .past .0) (x .past .1) (rw named at b)))
           where
             named : entry z s c e .handle .0 ≡ t .old .0
             named = rw (p, q) (x .names)
-
-        go : {w : Write} → Acts z s t w → Allowed z (s .chunks) (s .entries) w → RowKept z (entry z s c e) (entry z (after w) c e)
-        go (Acts.still {w = w} v u) a = still-row c e at w v a
-        go (Acts.takes b u) a = (refl, λ _. refl)
-        go (Acts.writes b q u) a = (refl, λ _. refl)
-        go (Acts.stores v b q i u) a = (refl, λ _. refl)
-        go (Acts.deletes b q i u) a = (refl, λ _. refl)
-        go (Acts.names x b q le i u) a = name-row c e at (t .chunk) (t .entry) (t .new) (x .row) (other x)
-        go (Acts.drops x u) a = name-row c e at (t .chunk) (t .entry) noHandle (x .row) (other x)
-
-    -- a row that names a handle afterwards named it before, or is the one that a deciding swap has written
-    pub row-back : {w : Write} → Acts z s t w → Allowed z (s .chunks) (s .entries) w → (c : ChunkNo) (e : EntryNo) → Row z c e → entry z (after w) c e .handle .0 < z .handles → RowKept z (entry z s c e) (entry z (after w) c e) ⊎ NewAt z s t c e (entry z (after w) c e)
-    row-back (Acts.still {w = w} v u) a c e at b = inl (still-row c e at w v a)
-    row-back (Acts.takes d u) a c e at b = inl (refl, λ _. refl)
-    row-back (Acts.writes d q u) a c e at b = inl (refl, λ _. refl)
-    row-back (Acts.stores v d q i u) a c e at b = inl (refl, λ _. refl)
-    row-back (Acts.deletes d q i u) a c e at b = inl (refl, λ _. refl)
-    row-back (Acts.names x d q le i u) a c e at b =
-        entry-put z (s .entries) (t .chunk) (t .entry) (Stages.withHandle (entry z s (t .chunk) (t .entry)) (t .new)) c e (λ y. RowKept z (entry z s c e) y ⊎ NewAt z s t c e y) len (x .row .chunk) (x .row .entry) (at .entry)
-        (λ p q. inr (record { swaps = x; chunk = p; entry = q; handle = refl; key = refl; decided = u })) (λ _. inl (refl, λ _. refl))
-    row-back (Acts.drops x u) a c e at b =
-        entry-put z (s .entries) (t .chunk) (t .entry) (Stages.withHandle (entry z s (t .chunk) (t .entry)) noHandle) c e (λ y. y .handle .0 < z .handles → RowKept z (entry z s c e) y ⊎ NewAt z s t c e y) len (x .row .chunk) (x .row .entry) (at .entry)
-        (λ p q i. absurd (out i)) (λ _ _. inl (refl, λ _. refl)) b
 
     -- ---- the handles' records
     -- what is undeleted afterwards was so, but for the handle taken
