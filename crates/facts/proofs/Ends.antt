@@ -82,7 +82,7 @@ module _ (z : Sizes) (lim : Limited z) (s : Tables) (h : Tabled z (s .directory)
       let H = Going.holds-at z lim s h t r 17 e (omega arith) in
       picked (Fine z s) (Stages.hasKey z s t)
       (λ i. Going.going z lim s h t r 18 (t .chunk) (find z s (t .chunk) (t .key)) (t .old) noHandle 0 0 (omega arith)
-      (record { fits = Going.fit z lim s h t r 17 18 (λ op. true) refl e (omega arith) refl; function = H .function; chunk = H .chunk; entry = i; old = H .old; new = refl; published = refl; swapped = refl })
+      (record { fits = Going.fit z lim s h t r 17 18 (λ op. true) refl e (omega arith) refl; function = H .function; chunk = H .chunk; entry = Going.key-in z lim s h t r i; old = H .old; new = refl; published = refl; swapped = refl })
       (r .chunk-of-key) (Going.found-held z lim s h t r (t .chunk) (ltb-true _ _ (H .chunk)) (t .key) 18))
       (λ _. Going.finished z lim s h t r _ _ tt)
 

@@ -118,6 +118,10 @@ module _ (z : Sizes) (lim : Limited z) (s : Tables) (h : Tabled z (s .directory)
         x : EntryHeld z (s .chunks) (s .entries) (t .chunk) (t .entry) (t .key) (t .stage)
         x = r .entry b
 
+    -- where the held chunk has the key the entry found is one of the table's
+    pub key-in : Stages.hasKey z s t ≡ true → ltb (find z s (t .chunk) (t .key) .0) (z .entries) ≡ true
+    key-in i = i
+
     module _ (c : ChunkNo) (b : c .0 < z .chunks) where
       links : Links z (s .entries) c (chunk s c .used) 0 (chunk s c .head) (listed z (s .chunks) (s .entries) c)
       links = h .lists c b .links

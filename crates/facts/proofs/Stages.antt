@@ -59,7 +59,7 @@ module _ (z : Sizes) (lim : Limited z) (s : Tables) (h : Tabled z (s .directory)
       let H = Going.holds-at z lim s h t r 2 e (omega arith) in
       picked (Fine z s) (Stages.hasKey z s t)
       (λ i. Going.going z lim s h t r 3 (t .chunk) (find z s (t .chunk) (t .key)) noHandle noHandle 0 0 (omega arith)
-      (record { fits = Going.fit z lim s h t r 2 3 (λ op. true) refl e (omega arith) refl; function = H .function; chunk = H .chunk; entry = i; old = refl; new = refl; published = refl; swapped = refl })
+      (record { fits = Going.fit z lim s h t r 2 3 (λ op. true) refl e (omega arith) refl; function = H .function; chunk = H .chunk; entry = Going.key-in z lim s h t r i; old = refl; new = refl; published = refl; swapped = refl })
       (r .chunk-of-key) (Going.found-held z lim s h t r (t .chunk) (ltb-true _ _ (H .chunk)) (t .key) 3))
       (λ i. picked (Fine z s) (inserts (t .operation))
       (λ j. Going.going z lim s h t r 6 (t .chunk) (t .entry) (t .old) (t .new) (t .published) (t .swapped) (omega arith)

@@ -244,8 +244,13 @@ module _ (z : Sizes) (lim : Limited z) (s : Tables) (r : Reached z s) (n : ℕ) 
   clears-goes (inr e) = let st = stands 20 e refl refl in rw e (picked By (Stages.stillNames z s t) (λ _. away st refl refl refl) (λ _. away st refl refl refl))
 
   -- ---- 12 and 15
-  ends-insertion-goes : t .stage ≡ 12 → By (Stages.endsInsertion z s t)
-  ends-insertion-goes e = picked By (Stages.swapFailed z s t) (λ i. restarts (rw (e, eqb-true (t .swapped) 0 i) refl, rw e refl) report.Lost refl) (λ i. Goes.answers refl (picked (λ (v : Report). isAnswer v ≡ true) (eqb (t .operation) putIfAbsent) (λ _. refl) (λ _. refl)) (Ends.tells (rw (e, swapped (eqb-false _ _ i)) refl) (rw e refl) answer))
+  -- an insertion whose swap failed has not decided
+  undecided-goes : t .stage ≡ 12 → Stages.swapFailed z s t ≡ true → By (Stages.restarts t report.Lost)
+  undecided-goes e i = restarts (rw (e, eqb-true (t .swapped) 0 i) refl, rw e refl) report.Lost refl
+
+  -- one whose swap succeeded has
+  decided-goes : t .stage ≡ 12 → Stages.swapFailed z s t ≡ false → By (Stages.finishes write.Nothing (pick (eqb (t .operation) putIfAbsent) report.True report.Done))
+  decided-goes e i = Goes.answers refl (picked (λ (v : Report). isAnswer v ≡ true) (eqb (t .operation) putIfAbsent) (λ _. refl) (λ _. refl)) (Ends.tells (rw (e, swapped (eqb-false _ _ i)) refl) (rw e refl) answer)
     where
       swapped : t .swapped ≢ 0 → t .swapped ≡ 1
       swapped ne = omega (arith, ne, leb-true (t .swapped) 1 (holds-at 12 e (omega arith) .swapped))
@@ -312,7 +317,7 @@ module _ (z : Sizes) (lim : Limited z) (s : Tables) (r : Reached z s) (n : ℕ) 
         publishes = publishes-goes;
         swaps = swaps-goes;
         clears = clears-goes;
-        endsInsertion = ends-insertion-goes;
+        endsInsertion = λ e. picked By (Stages.swapFailed z s t) (undecided-goes e) (decided-goes e);
         endsAbsent = ends-absent-goes;
         findsAgain = finds-again-goes;
         readsAgain = reads-again-goes;

@@ -78,7 +78,7 @@ module _ (z : Sizes) (lim : Limited z) (run : ℕ → Call) where
         pub present : Present z (tablesAt z run i) q v
         pub from : row i .key ≤ q
         pub to : q < row i .argument
-        pub past : decision i .task .key ≡ q + 1
+        pub past : q < decision i .task .key
 
       gave : (q v : ℕ) → GivesAt z run n i q v → Gave q v
       gave q v g = go scanning
@@ -87,7 +87,7 @@ module _ (z : Sizes) (lim : Limited z) (run : ℕ → Call) where
           says is = ap told (sym (reports (g .own) is) ∙ g .pair)
 
           go : Scanning z (tablesAt z run i) (row i) (decision i) → Gave q v
-          go (Scanning.gives p w is there from to _) = rw (← ap (λ (t : Told). t .first) (says is), ← ap (λ (t : Told). t .second) (says is)) (record { present = there; from = from; to = to; past = ap (λ (x : Decision). x .task .key) is })
+          go (Scanning.gives p w _ is there from to past _) = rw (← ap (λ (t : Told). t .first) (says is), ← ap (λ (t : Told). t .second) (says is)) (record { present = there; from = from; to = to; past = rw (ap (λ (x : Decision). x .task .key) is) past })
           go (Scanning.passes _ is _ _) = absurd (one-five (ap (λ (t : Told). t .number) (says is)))
             where
               one-five : _≡_ {A = ℕ} 1 5 → ⊥
@@ -136,13 +136,13 @@ module _ (z : Sizes) (lim : Limited z) (run : ℕ → Call) where
           gives is q v g = omega (arith, ap (λ (x : Decision). x .task .key) is, gave i (h .stage) q v g .past)
 
           go : Scanning z (tablesAt z run i) (row i) (decision i) → ScannedAt (suc i)
-          go (Scanning.gives q v is there from to clear) = rises i (q + 1) h (next is) (omega (arith, from)) (gives is) past
+          go (Scanning.gives q v c is there from to lt only) = rises i c h (next is) (omega (arith, from, lt)) (gives is) past
             where
-              past : (p : ℕ) → row i .key ≤ p → p < q + 1 → p < a → Always z run n j (suc i) p → Given z run n j (suc i) p
+              past : (p : ℕ) → row i .key ≤ p → p < c → p < a → Always z run n j (suc i) p → Given z run n j (suc i) p
               past p le lt up always =
                   elim (ℕ-discrete p q) [
                     | yes e ↦ record { at = i; value = v; since = after; before = omega arith; gives = record { own = b .call; pair = rw e (reports i (h .stage) (b .call) is) } }
-                    | no ne ↦ found i p (here p always) (λ w present. absurd (clear p w present le (omega (arith, lt, ne))))
+                    | no ne ↦ found i p (here p always) (λ w present. absurd (ne (only p w present le lt (rw (h .argument) up))))
                   ]
           go (Scanning.passes c is le clear) = rises i c h (next is) le (gives is) (λ p low lt up always. found i p (here p always) (λ w present. absurd (clear p w present low lt (rw (h .argument) up))))
           go (Scanning.ends is _) = absurd (busy (ap (λ (t : Task). t .stage) (row-next z run lim n i ∙ next is)))
@@ -192,7 +192,7 @@ module _ (z : Sizes) (lim : Limited z) (run : ℕ → Call) where
             said is = rw (reports i (h .stage) own is) at answered
 
             go : Scanning z (tablesAt z run i) (row i) (decision i) → Ended
-            go (Scanning.gives _ _ is _ _ _ _) = absurd (false≢true (said is))
+            go (Scanning.gives _ _ _ is _ _ _ _ _) = absurd (false≢true (said is))
             go (Scanning.passes _ is _ _) = absurd (false≢true (said is))
             go (Scanning.ends is clear) = record { done = reports i (h .stage) own is; clear = rw (h .argument) at clear }
 

@@ -1,9 +1,10 @@
 -- What a scan's step does, by what is present at its moment.
-use Prim.Native.Nat.{ℕ, _≤_, _<_}
+use Prim.Native.Nat.{ℕ, _+_, _≤_, _<_}
 use mathlib.Core.Path.{_≡_, refl, sym, ap, _∙_}
 use mathlib.Core.Bool.{true, false, false≢true}
 use mathlib.Core.List.{List·Memᴰ}
 use native.Mathlib.Nat.{le-trans}
+use native.Mathlib.Decide.{decLt}
 use native.Mathlib.Omega.{arith}
 use lib.Dec.{ltb, leb}
 use borrow.Author.Tests.{lt-ltb, le-leb, ltb-true, ltb-false, leb-true}
@@ -114,7 +115,7 @@ module _ (z : Sizes) (lim : Limited z) (s : Tables) (kept : Kept z s) (t : Task)
   scans-by : By (Stages.scans z s t)
   scans-by =
       picked By (leb (t .argument) (t .key)) (λ o. Scanning.ends refl (λ q v p le lt. beyond o q le lt))
-      (λ _. picked By (ltb (e₀ .0) (z .entries)) (λ i. let j = ltb-true (e₀ .0) (z .entries) i in Scanning.gives _ _ refl (hit-present z lim s kept (t .key) (t .argument) j) (hit-from z lim s kept (t .key) (t .argument) j) (hit-to z lim s kept (t .key) (t .argument) j) (hit-clear z lim s kept (t .key) (t .argument) j))
+      (λ _. picked By (ltb (e₀ .0) (z .entries)) (λ i. let j = ltb-true (e₀ .0) (z .entries) i in Scanning.gives _ _ _ refl (hit-present z lim s kept (t .key) (t .argument) j) (hit-from z lim s kept (t .key) (t .argument) j) (hit-to z lim s kept (t .key) (t .argument) j) (omega arith) (hit-only j _ (omega arith)))
       (λ o. picked By (ltb (chunk s c₀ .next .0) (z .chunks)) (λ i. passing (ltb-false _ _ o) (ltb-true _ _ i)) (λ n. ending (ltb-false _ _ o) (ltb-false _ _ n))))
     where
       c₀ : ChunkNo
@@ -122,6 +123,10 @@ module _ (z : Sizes) (lim : Limited z) (s : Tables) (kept : Kept z s) (t : Task)
 
       e₀ : EntryNo
       e₀ = firstPresent z s (locate z s (t .key)) (t .key) (t .argument)
+
+      -- none but the pair's key is present from the cursor up to the pair's successor
+      hit-only : e₀ .0 < z .entries → (k : ℕ) → k ≤ entry z s c₀ e₀ .key + 1 → (p w : ℕ) → Present z s p w → t .key ≤ p → p < k → p < t .argument → p ≡ entry z s c₀ e₀ .key
+      hit-only j k most p w there le lt up = elim (decLt p (entry z s c₀ e₀ .key)) [ yes b ↦ absurd (hit-clear z lim s kept (t .key) (t .argument) j p w there le b) | no ge ↦ omega (arith, ge, lt, most) ]
 
       beyond : leb (t .argument) (t .key) ≡ true → (q : ℕ) → t .key ≤ q → q < t .argument → ⊥
       beyond o q le lt = omega (arith, leb-true (t .argument) (t .key) o, le, lt)

@@ -35,9 +35,9 @@ Clear z s from to = (q v : ℕ) → Present z s q v → from ≤ q → q < to �
 abbrev pub Always : (z : Sizes) → (ℕ → Call) → ℕ → ℕ → ℕ → ℕ → Type 0
 Always z run n j i q = (p : ℕ) → During z run n j i p → lookup (mapAt z run p) q ≢ none
 
--- a scan's step gives the first pair from its cursor on, or goes on to a larger cursor, or ends
+-- a scan's step gives a pair, the only one from its cursor to its next, or goes on to a cursor past none, or ends
 pub data Scanning (z : Sizes) (s : Tables) (t : Task) (x : Decision) : Type 0 where
-  gives : (q v : ℕ) → x ≡ record { task = cursorAt t (q + 1); write = write.Nothing; report = report.Pair q v } → Present z s q v → t .key ≤ q → q < t .argument → Clear z s (t .key) q → Scanning z s t x
+  gives : (q v k : ℕ) → x ≡ record { task = cursorAt t k; write = write.Nothing; report = report.Pair q v } → Present z s q v → t .key ≤ q → q < t .argument → q < k → ((p w : ℕ) → Present z s p w → t .key ≤ p → p < k → p < t .argument → p ≡ q) → Scanning z s t x
   passes : (k : ℕ) → x ≡ moves (cursorAt t k) write.Nothing → t .key ≤ k → ((q v : ℕ) → Present z s q v → t .key ≤ q → q < k → q < t .argument → ⊥) → Scanning z s t x
   ends : x ≡ finishes write.Nothing report.Done → Clear z s (t .key) (t .argument) → Scanning z s t x
 
