@@ -101,17 +101,23 @@ module _ (z : Sizes) (lim : Limited z) (s : Tables) (h : Tabled z (s .directory)
       (r .chunk-of-key) (Going.entry-at z lim s h t r 4 e (omega arith) 13))))
 
   -- ---- 5 apply
+  -- a remove sets its mark and goes on to see to the handle's name
+  marking-fine : t .stage ≡ 5 → eqb (t .operation) remove ≡ true → Fine z s (Stages.moves (Stages.goesTo t 16 noChunk noEntry (t .old) noHandle 0 0) (write.Delete (t .old)))
+  marking-fine e g =
+      let H = Going.holds-at z lim s h t r 5 e (omega arith) in
+      record {
+        allowed = tt;
+        task = λ ts. Going.row-right z lim s h t r 16 noChunk noEntry (t .old) noHandle 0 0 (omega arith)
+            (record { fits = Going.fit z lim s h t r 5 16 (λ op. eqb op remove) refl e (omega arith) g; function = H .function; chunk = refl; entry = refl; old = H .old; new = refl; published = refl; swapped = refl })
+            (Going.no-chunk z lim s h _) (Going.no-entry z lim s h _);
+      }
+
   pub applies-fine : t .stage ≡ 5 → Fine z s (Stages.applies z s t)
   applies-fine e =
       let H = Going.holds-at z lim s h t r 5 e (omega arith) in
       picked (Fine z s) (eqb (mark s (t .old)) 0)
       (λ _. picked (Fine z s) (eqb (t .operation) remove)
-      (λ g. record {
-        allowed = tt;
-        task = λ ts. Going.row-right z lim s h t r 16 noChunk noEntry (t .old) noHandle 0 0 (omega arith)
-            (record { fits = Going.fit z lim s h t r 5 16 (λ op. eqb op remove) refl e (omega arith) g; function = H .function; chunk = refl; entry = refl; old = H .old; new = refl; published = refl; swapped = refl })
-            (Going.no-chunk z lim s h _) (Going.no-entry z lim s h _);
-      })
+      (marking-fine e)
       (λ _. picked (Fine z s) (eqb (t .operation) put) (λ _. Going.finished z lim s h t r _ _ tt) (λ _. Going.finished z lim s h t r _ _ tt)))
       (λ _. picked (Fine z s) (inserts (t .operation))
       (λ _. Going.restarted z lim s h t r _ (rw e (omega arith)) (Going.fit z lim s h t r 5 1 (λ op. true) refl e (omega arith) refl))
