@@ -35,10 +35,7 @@ pub fn move_on(
     let w = x.write;
     let report = x.report;
     writes::apply(z, chunks, entries, values, marks, w);
-    Turned {
-        task: next,
-        report: report,
-    }
+    Turned { task: next, report }
 }
 
 // The stage, with the task lent.
