@@ -1,0 +1,46 @@
+-- A row of the records read and written, as rows of the tables' values and marks.
+use mathlib.Core.Path.{_≡_, refl, sym, ap, _∙_}
+use Prim.Native.Nat.{ℕ, zero, suc}
+use mathlib.Core.List.{List, [], _∷_, map}
+use lib.ListN.{getD, set, List·getD-map}
+use Rattle.rules.specs.declared.HandleNo.{HandleNo}
+use Rattle.rules.specs.Tables.{Tables, value, mark, putValue, putMark, withValues, withMarks}
+use Rattle.records.specs.declared.Record.{Record}
+use Rattle.records.specs.Records.{noRecord, recordAt, stored, marked, withValue, withDeleted, valueOf, deletedOf, withRecords}
+
+-- a field of a row written anew is that field's list written there
+map-set : {A B : Type 0} (f : A → B) (xs : List A) (n : ℕ) (y : A) → map f (set xs n y) ≡ set (map f xs) n (f y)
+map-set f [] n y = refl
+map-set f (x ∷ xs) zero y = refl
+map-set f (x ∷ xs) (suc n) y = ap (λ zs. f x ∷ zs) (map-set f xs n y)
+
+-- a field that the new row keeps is as it was in every row
+map-kept : {A B : Type 0} (f : A → B) (xs : List A) (n : ℕ) (d y : A) → f y ≡ f (getD xs n d) → map f (set xs n y) ≡ map f xs
+map-kept f [] n d y e = refl
+map-kept f (x ∷ xs) zero d y e = ap (λ z. z ∷ map f xs) e
+map-kept f (x ∷ xs) (suc n) d y e = ap (λ zs. f x ∷ zs) (map-kept f xs n d y e)
+
+-- what is read as the handle's record is the tables' value and mark of the handle
+pub reads : (rs : List Record) (h : HandleNo) (r : Record) → r ≡ recordAt rs h
+    → (r ≡ recordAt rs h) × ((s : Tables) → (r .value ≡ value (withRecords s rs) h) × (r .deleted ≡ mark (withRecords s rs) h))
+reads rs h r e = (e, λ s. (ap valueOf e ∙ sym (List·getD-map valueOf rs (h .0) noRecord), ap deletedOf e ∙ sym (List·getD-map deletedOf rs (h .0) noRecord)))
+
+-- records with the value stored are the tables with the value put
+pub stores : (rs : List Record) (h : HandleNo) (v : ℕ) (ws : List Record) → ws ≡ stored rs h v
+    → (ws ≡ stored rs h v) × ((s : Tables) → withRecords s ws ≡ putValue (withRecords s rs) h v)
+stores rs h v ws e = (
+  e,
+  λ s. ap (withRecords s) e
+      ∙ ap (λ vs. withMarks (withValues s vs) (map deletedOf (stored rs h v))) (map-set valueOf rs (h .0) (withValue (recordAt rs h) v))
+      ∙ ap (λ ms. withMarks (withValues s (set (map valueOf rs) (h .0) v)) ms) (map-kept deletedOf rs (h .0) noRecord (withValue (recordAt rs h) v) refl),
+)
+
+-- records with the handle marked are the tables with the mark put
+pub marks : (rs : List Record) (h : HandleNo) (ws : List Record) → ws ≡ marked rs h
+    → (ws ≡ marked rs h) × ((s : Tables) → withRecords s ws ≡ putMark (withRecords s rs) h 1)
+marks rs h ws e = (
+  e,
+  λ s. ap (withRecords s) e
+      ∙ ap (λ vs. withMarks (withValues s vs) (map deletedOf (marked rs h))) (map-kept valueOf rs (h .0) noRecord (withDeleted (recordAt rs h) 1) refl)
+      ∙ ap (λ ms. withMarks (withValues s (map valueOf rs)) ms) (map-set deletedOf rs (h .0) (withDeleted (recordAt rs h) 1)),
+)
