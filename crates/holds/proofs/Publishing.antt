@@ -1,10 +1,10 @@
 -- Each stage of a task: who publishes, and that a named entry is linked.
 use Prim.Native.Nat.{ℕ, _<_}
 use mathlib.Core.Path.{_≡_, refl, sym, _∙_}
+use mathlib.Core.Bool.{Bool}
 use mathlib.Core.Logic.{_⊎_, inl, inr, _≢_}
 use mathlib.Core.List.{List·Memᴰ}
 use native.Mathlib.Omega.{arith}
-use lib.Dec.{eqb, ltb, leb}
 use borrow.Author.Tests.{ltb-true, eqb-true, eqb-false}
 use Rattle.rules.specs.declared.Sizes.{Sizes}
 use Rattle.rules.specs.declared.Task.{Task}
@@ -12,9 +12,9 @@ use Rattle.rules.specs.declared.HandleNo.{HandleNo}
 use Rattle.rules.specs.declared.Decision.{Decision}
 use Rattle.rules.specs.declared.Write.{Write}
 use Rattle.rules.specs.declared.Write.the-variants as write
-use Rattle.rules.specs.Words.{noHandle, get, put, putIfAbsent, remove, inserts}
-use Rattle.rules.specs.Tables.{Tables, chunk, entry, mark}
-use Rattle.rules.specs.Walks.{locate, linked, lowestFree, firstPresent}
+use Rattle.rules.specs.Words.{pick, noHandle}
+use Rattle.rules.specs.Tables.{Tables, chunk}
+use Rattle.rules.specs.Walks.{linked}
 use Rattle.rules.specs.Stages
 use Rattle.laws.proofs.EachStage.{each-stage}
 use Rattle.laws.proofs.Tests.{picked}
@@ -46,10 +46,15 @@ module _ (z : Sizes) (s : Tables) (t : Task) (r : Tasked z (s .chunks) (s .entri
   still : {x : Decision} → x .task .published ≡ t .published → x .task .chunk ≡ t .chunk → NamesLinked z s (x .write) → Publishes x
   still e c w = record { publishes = λ q. (c, inl (sym e ∙ q)); names = w }
 
+  either : (b : Bool) {x y : Decision} → Publishes x → Publishes y → Publishes (pick b x y)
+  either b p q = picked Publishes b (λ _. p) (λ _. q)
+
+  ruleset publishing = (either, quiet, still)
+
   publishes-so : t .chunk .0 < z .chunks → Publishes (Stages.publishes z s t)
   publishes-so b =
       picked Publishes (Stages.mayPublish z s t) (λ f. record { publishes = λ _. (refl, inr (eqb-true _ _ f, b)); names = tt })
-      (λ _. picked Publishes (eqb (t .stage) 19) (λ _. quiet refl tt) (λ _. quiet refl tt))
+      (λ _. search publishing)
 
   chunk-in : (t .stage ≡ 10) ⊎ ((t .stage ≡ 13) ⊎ (t .stage ≡ 19)) → t .chunk .0 < z .chunks
   chunk-in (inl e) = ltb-true _ _ (holds-at 10 e (omega arith) .chunk)
@@ -69,23 +74,23 @@ module _ (z : Sizes) (s : Tables) (t : Task) (r : Tasked z (s .chunks) (s .entri
   pub decides-publish : Publishes (Stages.decide z s t)
   decides-publish =
       each-stage z s t Publishes (record {
-        locates = λ _. quiet refl tt;
-        finds = λ _. picked Publishes (Stages.hasKey z s t) (λ _. quiet refl tt) (λ _. picked Publishes (inserts (t .operation)) (λ _. still refl refl tt) (λ _. quiet refl tt));
-        reads = λ _. picked Publishes (ltb (entry z s (t .chunk) (t .entry) .handle .0) (z .handles)) (λ _. quiet refl tt) (λ _. picked Publishes (inserts (t .operation)) (λ _. still refl refl tt) (λ _. quiet refl tt));
-        checks = λ _. picked Publishes (eqb (mark s (t .old)) 0) (λ _. picked Publishes (eqb (t .operation) get) (λ _. quiet refl tt) (λ _. picked Publishes (eqb (t .operation) putIfAbsent) (λ _. quiet refl tt) (λ _. still refl refl tt))) (λ _. picked Publishes (eqb (t .operation) get) (λ _. quiet refl tt) (λ _. still refl refl tt));
-        applies = λ _. picked Publishes (eqb (mark s (t .old)) 0) (λ _. picked Publishes (eqb (t .operation) remove) (λ _. quiet refl tt) (λ _. picked Publishes (eqb (t .operation) put) (λ _. quiet refl tt) (λ _. quiet refl tt))) (λ _. picked Publishes (inserts (t .operation)) (λ _. quiet refl tt) (λ _. still refl refl tt));
-        takesEntry = λ _. picked Publishes (eqb (chunk s (t .chunk) .frozen) 0) (λ _. picked Publishes (ltb (chunk s (t .chunk) .used) (z .entries)) (λ _. quiet refl tt) (λ _. quiet refl tt)) (λ _. quiet refl tt);
-        links = λ _. picked Publishes (eqb (chunk s (t .chunk) .frozen) 0) (λ _. picked Publishes (Stages.hasOther z s t) (λ _. quiet refl tt) (λ _. still refl refl tt)) (λ _. quiet refl tt);
-        takesHandle = λ _. picked Publishes (ltb (lowestFree z s .0) (z .handles)) (λ _. quiet refl tt) (λ _. quiet refl tt);
-        writes = λ _. still refl refl tt;
+        locates = search publishing;
+        finds = search publishing;
+        reads = search publishing;
+        checks = search publishing;
+        applies = search publishing;
+        takesEntry = search publishing;
+        links = search publishing;
+        takesHandle = search publishing;
+        writes = search publishing;
         publishes = λ e. publishes-so (chunk-in e);
         swaps = λ e. swaps-at (inl e) (t .new);
         clears = λ e. swaps-at (inr e) noHandle;
-        endsInsertion = λ _. picked Publishes (Stages.swapFailed z s t) (λ _. quiet refl tt) (λ _. quiet refl tt);
-        endsAbsent = λ _. picked Publishes (Stages.swapFailed z s t) (λ _. quiet refl tt) (λ _. quiet refl tt);
-        findsAgain = λ _. picked Publishes (Stages.hasKey z s t) (λ _. quiet refl tt) (λ _. quiet refl tt);
-        readsAgain = λ _. picked Publishes (eqb (entry z s (t .chunk) (t .entry) .handle .0) (t .old .0)) (λ _. still refl refl tt) (λ _. quiet refl tt);
-        endsRemove = λ _. quiet refl tt;
-        scans = λ _. picked Publishes (leb (t .argument) (t .key)) (λ _. quiet refl tt) (λ _. picked Publishes (ltb (firstPresent z s (locate z s (t .key)) (t .key) (t .argument) .0) (z .entries)) (λ _. still refl refl tt) (λ _. picked Publishes (ltb (chunk s (locate z s (t .key)) .next .0) (z .chunks)) (λ _. still refl refl tt) (λ _. quiet refl tt)));
-        stays = λ _. still refl refl tt;
+        endsInsertion = search publishing;
+        endsAbsent = search publishing;
+        findsAgain = search publishing;
+        readsAgain = search publishing;
+        endsRemove = search publishing;
+        scans = search publishing;
+        stays = search publishing;
       })
