@@ -55,6 +55,7 @@ module _ (z : Sizes) (lim : Limited z) (s : Tables) (kept : Kept z s) (marked : 
   gone : {x : Decision} → x .task .old .0 ≡ NONE → x .task .new .0 ≡ NONE → Touches (x .write) → Marks x
   gone o e w = record { old = λ ts _ _ b. absurd (never o b); new = λ ts b. absurd (never e b); touches = w }
 
+  -- of the picked one as of both
   either : (b : Bool) {x y : Decision} → Marks x → Marks y → Marks (pick b x y)
   either b p q = picked Marks b (λ _. p) (λ _. q)
 
