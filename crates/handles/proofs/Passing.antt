@@ -44,7 +44,7 @@ module _ (z : Sizes) (lim : Limited z) (s : Tables) (h : Tabled z (s .directory)
   holds-at : (m : ℕ) → t .stage ≡ m → m ≢ 0 → Holds z t (holdAt m)
   holds-at = holding z (s .chunks) (s .entries) t r
 
-  -- nothing is held; both are held on; the old one is held on; nothing but what was
+  -- nothing is held; the old one is held on; both are
   dropped : {x : Decision} → x .task .old .0 ≡ NONE → x .task .new .0 ≡ NONE → NamesRight z t (x .task) (x .write) → Passed x
   dropped o e w = record { passes = record { old = inl o; new = inl e }; names = w }
 
@@ -54,6 +54,7 @@ module _ (z : Sizes) (lim : Limited z) (s : Tables) (h : Tabled z (s .directory)
   both-on : {x : Decision} → x .task .key ≡ t .key → x .task .old .0 ≡ t .old .0 → x .task .new .0 ≡ t .new .0 → (x .task .swapped ≡ 0 → t .swapped ≡ 0) → NamesRight z t (x .task) (x .write) → Passed x
   both-on k o e sw w = record { passes = record { old = inr (inl o, k); new = inr (inl (e, sw)) }; names = w }
 
+  -- of the picked one as of both
   either : (b : Bool) {x y : Decision} → Passed x → Passed y → Passed (pick b x y)
   either b p q = picked Passed b (λ _. p) (λ _. q)
 

@@ -2,10 +2,10 @@
 use Prim.Native.Nat.{ℕ, _+_, _≤_, _<_}
 use mathlib.Core.Path.{_≡_, refl, _∙_}
 use mathlib.Core.Logic.{_⊎_, inl, inr, ⊎-elim, _≢_}
-use mathlib.Core.Bool.{true, false}
+use mathlib.Core.Bool.{Bool, true, false}
 use mathlib.Core.List.{List}
 use native.Mathlib.Omega.{arith}
-use lib.Dec.{eqb, ltb, leb}
+use lib.Dec.{eqb, ltb}
 use lib.ListN.{getD}
 use lib.Seq.{getD-set-same, getD-set-other}
 use borrow.Author.Tests.{ltb-true, eqb-true, eqb-false}
@@ -16,8 +16,8 @@ use Rattle.rules.specs.declared.Decision.{Decision}
 use Rattle.rules.specs.declared.Write.{Write}
 use Rattle.rules.specs.declared.Write.the-variants as write
 use Rattle.rules.specs.Words.{pick, NONE, noHandle, get, put, putIfAbsent, remove, inserts}
-use Rattle.rules.specs.Tables.{Tables, withTasks, chunk, entry, mark, task}
-use Rattle.rules.specs.Walks.{locate, find, lowestFree, firstPresent}
+use Rattle.rules.specs.Tables.{Tables, withTasks, entry, mark, task}
+use Rattle.rules.specs.Walks.{find, lowestFree}
 use Rattle.rules.specs.Stages
 use Rattle.laws.proofs.EachStage.{each-stage}
 use Rattle.laws.proofs.Tests.{picked}
@@ -54,6 +54,12 @@ module _ (z : Sizes) (lim : Limited z) (s : Tables) (kept : Kept z s) (marked : 
   -- nothing is held
   gone : {x : Decision} → x .task .old .0 ≡ NONE → x .task .new .0 ≡ NONE → Touches (x .write) → Marks x
   gone o e w = record { old = λ ts _ _ b. absurd (never o b); new = λ ts b. absurd (never e b); touches = w }
+
+  -- of the picked one as of both
+  either : (b : Bool) {x y : Decision} → Marks x → Marks y → Marks (pick b x y)
+  either b p q = picked Marks b (λ _. p) (λ _. q)
+
+  ruleset leaving = (either, gone)
 
   -- the old one is held on from another stage than 4 and 5, and the new one, with what its record said
   old-on : (m : ℕ) → t .stage ≡ m → m ≢ 4 → m ≢ 5 → (t′ : Task) → t′ .old .0 ≡ t .old .0 → OldDeleted z (s .marks) t′
@@ -133,18 +139,18 @@ module _ (z : Sizes) (lim : Limited z) (s : Tables) (kept : Kept z s) (marked : 
         reads = λ e. picked Marks (ltb (entry z s (t .chunk) (t .entry) .handle .0) (z .handles)) (λ _. record { old = λ ts x. absurd (x refl); new = λ ts b. absurd (never refl b); touches = tt }) (λ _. picked Marks (inserts (t .operation)) (λ _. keeps-on 3 8 e (omega arith) (omega arith) (omega arith)) (λ _. gone refl refl tt));
         checks = λ e. picked Marks (eqb (mark s (t .old)) 0) (λ _. picked Marks (eqb (t .operation) get) (λ _. gone refl refl tt) (λ _. picked Marks (eqb (t .operation) putIfAbsent) (λ _. gone refl refl tt) (λ _. record { old = λ ts _ y. absurd (y refl); new = λ ts. none-new (Stages.keeps t 5) (eqb-true _ _ (holds-at 4 e (omega arith) .new)); touches = tt }))) (λ d. picked Marks (eqb (t .operation) get) (λ _. gone refl refl tt) (λ _. keeps-deleted 4 (pick (inserts (t .operation)) 8 13) e (omega arith) refl d));
         applies = applies-marks;
-        takesEntry = λ _. picked Marks (eqb (chunk s (t .chunk) .frozen) 0) (λ _. picked Marks (ltb (chunk s (t .chunk) .used) (z .entries)) (λ _. gone refl refl tt) (λ _. gone refl refl tt)) (λ _. gone refl refl tt);
-        links = λ e. picked Marks (eqb (chunk s (t .chunk) .frozen) 0) (λ _. picked Marks (Stages.hasOther z s t) (λ _. gone refl refl tt) (λ _. gone (eqb-true _ _ (holds-at 7 e (omega arith) .old)) (eqb-true _ _ (holds-at 7 e (omega arith) .new)) tt)) (λ _. gone refl refl tt);
+        takesEntry = search leaving;
+        links = λ e. let H = holds-at 7 e (omega arith) in search (leaving, eqb-true (t .old .0) NONE (H .old), eqb-true (t .new .0) NONE (H .new));
         takesHandle = takes-marks;
         writes = writes-marks;
         publishes = ⊎-elim (λ o. publishes-marks 10 o (omega arith) refl) (⊎-elim (λ v. publishes-marks 13 v (omega arith) refl) (λ v. publishes-marks 19 v (omega arith) refl));
         swaps = λ e. swaps-marks 11 (t .new) e (omega arith) refl;
         clears = ⊎-elim (λ o. swaps-marks 14 noHandle o (omega arith) refl) (λ o. swaps-marks 20 noHandle o (omega arith) refl);
-        endsInsertion = λ _. picked Marks (Stages.swapFailed z s t) (λ _. gone refl refl tt) (λ _. gone refl refl tt);
-        endsAbsent = λ _. picked Marks (Stages.swapFailed z s t) (λ _. gone refl refl tt) (λ _. gone refl refl tt);
+        endsInsertion = search leaving;
+        endsAbsent = search leaving;
         findsAgain = λ e. picked Marks (Stages.hasKey z s t) (λ _. record { old = λ ts. old-on 17 e (omega arith) (omega arith) (Stages.goesTo t 18 (t .chunk) (find z s (t .chunk) (t .key)) (t .old) noHandle 0 0) refl; new = λ ts b. absurd (never refl b); touches = tt }) (λ _. gone refl refl tt);
         readsAgain = λ e. picked Marks (eqb (entry z s (t .chunk) (t .entry) .handle .0) (t .old .0)) (λ _. keeps-on 18 19 e (omega arith) (omega arith) (omega arith)) (λ _. gone refl refl tt);
-        endsRemove = λ _. gone refl refl tt;
-        scans = λ e. let H = holds-at 22 e (omega arith) in picked Marks (leb (t .argument) (t .key)) (λ _. gone refl refl tt) (λ _. picked Marks (ltb (firstPresent z s (locate z s (t .key)) (t .key) (t .argument) .0) (z .entries)) (λ _. gone (eqb-true _ _ (H .old)) (eqb-true _ _ (H .new)) tt) (λ _. picked Marks (ltb (chunk s (locate z s (t .key)) .next .0) (z .chunks)) (λ _. gone (eqb-true _ _ (H .old)) (eqb-true _ _ (H .new)) tt) (λ _. gone refl refl tt)));
+        endsRemove = search leaving;
+        scans = λ e. let H = holds-at 22 e (omega arith) in search (leaving, eqb-true (t .old .0) NONE (H .old), eqb-true (t .new .0) NONE (H .new));
         stays = λ _. record { old = λ ts. marked .old-deleted n; new = λ ts. marked .new-written n; touches = tt };
       })

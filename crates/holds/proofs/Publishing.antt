@@ -46,6 +46,7 @@ module _ (z : Sizes) (s : Tables) (t : Task) (r : Tasked z (s .chunks) (s .entri
   still : {x : Decision} → x .task .published ≡ t .published → x .task .chunk ≡ t .chunk → NamesLinked z s (x .write) → Publishes x
   still e c w = record { publishes = λ q. (c, inl (sym e ∙ q)); names = w }
 
+  -- of the picked one as of both
   either : (b : Bool) {x y : Decision} → Publishes x → Publishes y → Publishes (pick b x y)
   either b p q = picked Publishes b (λ _. p) (λ _. q)
 

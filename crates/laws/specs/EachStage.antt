@@ -15,7 +15,7 @@ use Rattle.rules.specs.Stages
 abbrev pub NoStage : ℕ → Type 0
 NoStage n = (m : ℕ) → (leb 1 m and leb m 22) ≡ true → eqb n m ≡ false
 
--- of a task at work by a rule, what the rule decides
+-- P of what each rule decides, for a task that stands at a stage of the rule
 pub record EachStage (z : Sizes) (s : Tables) (t : Task) (P : Decision → Type 0) : Type 0 where
   pub locates : (t .stage ≡ 1) ⊎ (t .stage ≡ 16) → P (Stages.locates z s t)
   pub finds : t .stage ≡ 2 → P (Stages.finds z s t)
