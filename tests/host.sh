@@ -8,11 +8,11 @@ made=target/host
 mkdir -p "$made"
 same() { cmp "$1" examples/host.stdout || { echo "host: $2 printed something else"; exit 1; }; }
 
-# the archive defines the five calls and asks for memset alone
+# the archive defines the five calls and asks for no other name
 names=$(nm -g "$archive" | awk 'NF == 3 && $2 == "T" { print $3 }' | sort | xargs)
 [ "$names" = "kamrduch_begin kamrduch_fresh kamrduch_rebalance kamrduch_start kamrduch_step" ] || { echo "host: the archive defines $names"; exit 1; }
 wanted=$(nm -u "$archive" | awk '$1 == "U" { print $2 }' | sort -u | xargs)
-[ "$wanted" = memset ] || { echo "host: the archive asks for $wanted"; exit 1; }
+[ -z "$wanted" ] || { echo "host: the archive asks for $wanted"; exit 1; }
 
 # the header, alone, in both languages; the example under valgrind
 gcc -std=c11 -Wall -Wextra -Werror -pedantic -fsyntax-only -x c include/kamrduch.h

@@ -50,13 +50,15 @@ pub fn empty_entries(n: usize, entries: &mut [u64])
     }
 }
 
-// Every word is 0.
+// Every word is 0. One that is so already is not written, which keeps the loop a loop: no call of `memset` stands in for it.
 pub fn zeros(words: &mut [u64])
     ensures { λ _. ⌜ now (words .exit) ≡ replicate (length (now (words .entry))) 0 ⌝ }
 {
     let mut i = 0;
     while i < words.len() {
-        words[i] = 0;
+        if words[i] != 0 {
+            words[i] = 0;
+        }
         i += 1;
     }
 }
