@@ -1,23 +1,25 @@
 -- What the shape says of a task that is to take a step, and the step.
-use Prim.Native.Nat.{ℕ, _*_, _<_, _≤_}
-use mathlib.Core.Path.{_≡_, refl, sym, ap, _∙_}
-use mathlib.Core.Bool.{Bool, true, false}
+use Prim.Native.Nat.{ℕ, _<_}
+use mathlib.Core.Path.{_≡_, sym, ap, _∙_}
+use mathlib.Core.Bool.{true}
 use native.Mathlib.Omega.{arith}
-use lib.Dec.{eqb, ltb, leb}
+use lib.Dec.{eqb, leb}
 use lib.ListN.{length, getD}
-use borrow.Author.Tests.{eqb-true, ltb-true, lt-leb, ne-eqb}
+use borrow.Author.Tests.{eqb-true, ltb-true}
 use Rattle.rules.specs.declared.Sizes.{Sizes}
 use Rattle.rules.specs.declared.Task.{Task}
-use Rattle.rules.specs.declared.Decision.{Decision}
 use Rattle.rules.specs.Words.{pick, _and_, usesFunction}
 use Rattle.rules.specs.Tables.{Tables, task, putTask}
-use Rattle.rules.specs.Stages.{decide, apply}
-use Rattle.rules.specs.Rebalance.{gives}
+use Rattle.rules.specs.Stages.{decide}
+use Rattle.rules.specs.Rebalance.{Outcome, gives}
 use Rattle.rules.specs.Calls.{steps}
 use Rattle.rules.specs.Shape.{Hold, hold, stageList, heldAs, fitsOperation, holdsRight, isIdle, shape}
 use Rattle.rules.proofs.Tests.{and-left, and-right, from-picked}
-use Rattle.rules.proofs.Shaped.{shape-parts, task-right}
+use Rattle.rules.proofs.Shaped.{task-right}
 use Rattle.stages.specs.Lengths.{Held}
+use Rattle.turn.specs.declared.Turned.{Turned}
+use Rattle.turn.specs.Turns.{writes}
+use Rattle.turn.proofs.Turning.{turn-steps}
 
 always : (how size n : ℕ) → how ≡ 1 → heldAs how size n ≡ true → n < size
 always how size n e t = ltb-true n size (rw e at t)
@@ -49,6 +51,7 @@ task-held z s h long n b =
     (λ e busy. right-held z s (task s n) (and-right (pick (usesFunction (task s n .operation)) (leb 1 (task s n .function) and leb (task s n .function) 3) true) _ (and-right (fitsOperation (task s n .operation) (task s n .stage)) _ busy)))
     (task-right z s h n (rw long b))
 
--- what the code has done is the rule's step
-pub stepped : (z : Sizes) (s : Tables) (n : ℕ) (t : Task) → t ≡ task s n → n < z .tasks → (t .stage ≡ 0 → ⊥) → (x : Decision) → x ≡ decide z s t → (put after : Tables) → put ≡ putTask s n (x .task) → after ≡ apply z put (x .write) → gives after (x .report) ≡ steps z s n
-stepped z s n t q b ne x e put after p r = rw (lt-leb (z .tasks) n b, ← q, ne-eqb (t .stage) 0 ne, ← e, r, p)
+-- a stage moved on, and its task put into its row, is the rule's step
+pub stepped : (z : Sizes) (s : Tables) (n : ℕ) (t : Task) → t ≡ task s n → n < z .tasks → (t .stage ≡ 0 → ⊥) → (x : Turned) (written : Tables) → (x .task ≡ decide z s t .task) × (gives written (x .report) ≡ writes z s t)
+    → (after : Tables) → after ≡ putTask written n (x .task) → gives after (x .report) ≡ steps z s n
+stepped z s n t q b ne x written (e, r) after p = rw (p, e, ap (λ (o : Outcome). o .tables) r, ap (λ (o : Outcome). o .report) r, q) (sym (turn-steps z s n b (rw q at ne)))

@@ -1,9 +1,7 @@
 // Step: what the task's stage decides is done.
-use rules::Decision;
 use rules::Report;
 use rules::Sizes;
 use rules::Task;
-use rules::Write;
 ghost use mathlib.Core.Path.{_≡_};
 ghost use mathlib.Core.Bool.{true};
 ghost use Rattle.rules.specs.Shape.{shape};
@@ -33,11 +31,7 @@ pub fn step(
     if t.stage == 0 {
         return Report::Refused(3);
     }
-    let x = stages::decide(z, directory, tasks, chunks, entries, values, marks, t);
-    let next = x.task;
-    let w = x.write;
-    let report = x.report;
-    rows::put_task_row(tasks, i, next);
-    writes::apply(z, chunks, entries, values, marks, w);
-    report
+    let x = turn::move_on(z, directory, tasks, chunks, entries, values, marks, t);
+    rows::put_task_row(tasks, i, x.task);
+    x.report
 }

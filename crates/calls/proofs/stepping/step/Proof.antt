@@ -1,20 +1,27 @@
-use Prim.Native.Nat.{_-_}
+use Prim.Native.Nat.{ℕ, suc-le-suc}
 use mathlib.Core.Path.{_≡_, sym, _∙_}
+use mathlib.Core.List.{List}
 use native.Mathlib.Omega.{arith}
-use lib.ListN.{getD}
 use borrow.Author.Tests.{le-leb, lt-leb, eq-eqb}
-use Rattle.rows.specs.Rows.{tables, taskRows, taskOf}
-use Rattle.rows.proofs.Laws.{row-read}
-use Rattle.rules.specs.Tables.{idleTask}
-use Prim.Native.Nat.{suc-le-suc}
-use Rattle.rows.specs.Rows.{taskRows}
-use Rattle.rows.proofs.Laws.{length-rows}
-use Rattle.rules.proofs.Shaped.{shape-parts, stage-known}
-use Rattle.writes.proofs.Placed.{placed}
-use Rattle.calls.proofs.Held.{task-held, stepped}
 use borrow.Author.Needs.{needs}
+use Rattle.rules.specs.Tables.{Tables, task, idleTask}
+use Rattle.rules.proofs.Shaped.{shape-parts, stage-known}
+use Rattle.rows.specs.Rows.{tables, taskOf}
+use Rattle.rows.proofs.Laws.{row-read, length-rows}
+use Rattle.calls.proofs.Held.{task-held, stepped}
 use Rattle.calls.proofs.stepping.step.Statement.{statement}
 use Rattle.calls.proofs.stepping.step.Tie as tie
+
+-- the tables as they are lent
+abbrev lent : tie.Start → Tables
+lent c = tables (c .args .z) (c .args .directory .now) (c .args .tasks .now) (c .args .chunks .now) (c .args .entries .now) (c .args .values .now) (c .args .marks .now)
+
+abbrev start : tie.After-task-row → tie.Start
+start c = c .before .before .before .before .before .before .before .before .before .before
+
+-- the task that is read is the row's
+own : (c : tie.After-task-row) → c .task-row .result ≡ task (lent (start c)) (start c .args .n)
+own c = c .task-row .ensures ∙ sym (row-read (taskOf (start c .args .tasks .now)) _ _ idleTask (c .before .before .if1 .left))
 
 returns : tie.Need-returns
 returns c = rw (le-leb _ _ (c .if1 .taken))
@@ -26,16 +33,19 @@ same-length : tie.Need-same-length
 same-length c = search needs
 
 returns-2 : tie.Need-returns-2
-returns-2 c = let the-args = c .before .before .before .before .before .before .before .before .before .before .before .before .args in let the-if1 = c .before .before .before .before .if1 in let the-task-row = c .before .before .task-row in let q : the-task-row .result ≡ getD (taskRows (the-args .z .tasks) (the-args .tasks .now)) (the-args .n) idleTask = the-task-row .ensures ∙ sym (row-read (taskOf (the-args .tasks .now)) _ _ idleTask (the-if1 .left)) in rw (lt-leb _ _ (the-if1 .left), ← q, eq-eqb _ _ (c .if2 .taken))
+returns-2 c = rw (lt-leb _ _ (c .before .before .before .before .if1 .left), ← own (c .before .before), eq-eqb _ _ (c .if2 .taken))
 
-decide-requires : tie.Need-decide-requires
-decide-requires c κs = let the-args = c .before .before .before .before .before .before .before .before .before .before .before .before .before .before .before .before .before .args in let the-if1 = c .before .before .before .before .before .before .before .before .before .if1 in let the-pre = c .before .before .before .before .before .before .before .before .before .before .before .before .before .before .before .before .before .pre in let the-task-row = c .before .before .before .before .before .before .before .task-row in let q : the-task-row .result ≡ getD (taskRows (the-args .z .tasks) (the-args .tasks .now)) (the-args .n) idleTask = the-task-row .ensures ∙ sym (row-read (taskOf (the-args .tasks .now)) _ _ idleTask (the-if1 .left)) in (the-pre .0, (rw q (task-held (the-args .z) (tables (the-args .z) (the-args .directory .now) (the-args .tasks .now) (the-args .chunks .now) (the-args .entries .now) (the-args .values .now) (the-args .marks .now)) (the-pre .1) (length-rows _ _ _) (the-args .n) (the-if1 .left))), (rw q (suc-le-suc (stage-known (the-args .z) (tables (the-args .z) (the-args .directory .now) (the-args .tasks .now) (the-args .chunks .now) (the-args .entries .now) (the-args .values .now) (the-args .marks .now)) (the-pre .1) (the-args .n)))), shape-parts (the-args .z) (tables (the-args .z) (the-args .directory .now) (the-args .tasks .now) (the-args .chunks .now) (the-args .entries .now) (the-args .values .now) (the-args .marks .now)) (the-pre .1) .first)
+move-on-requires : tie.Need-move-on-requires
+move-on-requires c κs =
+    let row = c .before .before .before .before .before .before .before in
+    let s = lent (start row) in
+    let z = start row .args .z in
+    let n = start row .args .n in
+    let pre = start row .pre in
+    (pre .0, rw (own row) (task-held z s (pre .1) (length-rows _ _ _) n (row .before .before .if1 .left)), rw (own row) (suc-le-suc (stage-known z s (pre .1) n)), shape-parts z s (pre .1) .first)
 
 put-task-row-requires : tie.Need-put-task-row-requires
-put-task-row-requires c κs = omega (arith, c .before .before .before .before .before .before .before .before .before .before .before .before .before .before .before .before .before .before .before .before .pre .0 .tasks)
-
-apply-requires : tie.Need-apply-requires
-apply-requires c κs = let the-args = c .before .before .before .before .before .before .before .before .before .before .before .before .before .before .before .before .before .before .before .before .before .before .before .before .before .before .before .args in let the-if1 = c .before .before .before .before .before .before .before .before .before .before .before .before .before .before .before .before .before .before .before .if1 in let the-pre = c .before .before .before .before .before .before .before .before .before .before .before .before .before .before .before .before .before .before .before .before .before .before .before .before .before .before .before .pre in let the-task-row = c .before .before .before .before .before .before .before .before .before .before .before .before .before .before .before .before .before .task-row in let q : the-task-row .result ≡ getD (taskRows (the-args .z .tasks) (the-args .tasks .now)) (the-args .n) idleTask = the-task-row .ensures ∙ sym (row-read (taskOf (the-args .tasks .now)) _ _ idleTask (the-if1 .left)) in record { chunks = the-pre .0 .chunks; entries = the-pre .0 .entries; placed = rw (c .before .before .before .before .before .before .before .before .before .decide .ensures) (placed (the-args .z) (tables (the-args .z) (the-args .directory .now) (the-args .tasks .now) (the-args .chunks .now) (the-args .entries .now) (the-args .values .now) (the-args .marks .now)) (the-task-row .result) (rw q (task-held (the-args .z) (tables (the-args .z) (the-args .directory .now) (the-args .tasks .now) (the-args .chunks .now) (the-args .entries .now) (the-args .values .now) (the-args .marks .now)) (the-pre .1) (length-rows _ _ _) (the-args .n) (the-if1 .left))) (rw q (suc-le-suc (stage-known (the-args .z) (tables (the-args .z) (the-args .directory .now) (the-args .tasks .now) (the-args .chunks .now) (the-args .entries .now) (the-args .values .now) (the-args .marks .now)) (the-pre .1) (the-args .n))))) }
+put-task-row-requires c κs = omega (arith, c .before .before .before .before .before .before .before .before .before .before .before .before .before .before .before .before .before .before .before .before .before .before .before .before .before .before .before .pre .0 .tasks)
 
 same-length-2 : tie.Need-same-length-2
 same-length-2 c = search needs
@@ -53,7 +63,13 @@ same-length-6 : tie.Need-same-length-6
 same-length-6 c = search needs
 
 returns-3 : tie.Need-returns-3
-returns-3 c = let the-apply = c .before .before .before .before .before .before .before .before .apply in let the-args = c .before .before .before .before .before .before .before .before .before .before .before .before .before .before .before .before .before .before .before .before .before .before .before .before .before .before .before .before .before .before .before .before .before .before .before .before .args in let the-decide = c .before .before .before .before .before .before .before .before .before .before .before .before .before .before .before .before .before .before .decide in let the-if1 = c .before .before .before .before .before .before .before .before .before .before .before .before .before .before .before .before .before .before .before .before .before .before .before .before .before .before .before .before .if1 in let the-put-task-row = c .before .before .before .before .before .before .before .before .before .before .before .before .before .before .before .put-task-row in let the-task-row = c .before .before .before .before .before .before .before .before .before .before .before .before .before .before .before .before .before .before .before .before .before .before .before .before .before .before .task-row in let q : the-task-row .result ≡ getD (taskRows (the-args .z .tasks) (the-args .tasks .now)) (the-args .n) idleTask = the-task-row .ensures ∙ sym (row-read (taskOf (the-args .tasks .now)) _ _ idleTask (the-if1 .left)) in stepped (the-args .z) (tables (the-args .z) (the-args .directory .now) (the-args .tasks .now) (the-args .chunks .now) (the-args .entries .now) (the-args .values .now) (the-args .marks .now)) (the-args .n) (the-task-row .result) q (the-if1 .left) (c .before .before .before .before .before .before .before .before .before .before .before .before .before .before .before .before .before .before .before .before .before .before .before .before .if2 .left) (the-decide .result) (the-decide .ensures) (tables (the-args .z) (the-args .directory .now) (the-put-task-row .last .0) (the-args .chunks .now) (the-args .entries .now) (the-args .values .now) (the-args .marks .now)) (tables (the-args .z) (the-args .directory .now) (the-put-task-row .last .0) (the-apply .last .1 .0) (the-apply .last .1 .1 .0) (the-apply .last .1 .1 .1 .0) (the-apply .last .1 .1 .1 .1 .0)) (rw (the-put-task-row .ensures (the-args .z .tasks))) (the-apply .ensures (the-args .directory .now) (the-put-task-row .last .0))
+returns-3 c =
+    let row = c .before .before .before .before .before .before .before .before .before .before .before .before .before .before .before .before .before .before .before .before in
+    let moved = c .before .before .before .before .before .before .before .before .before .before .before .before .move-on in
+    let put = c .before .before .put-task-row in
+    let a = start row .args in
+    let with : List ℕ → Tables = λ ts. tables (a .z) (a .directory .now) ts (moved .last .1 .1 .1 .0) (moved .last .1 .1 .1 .1 .0) (moved .last .1 .1 .1 .1 .1 .0) (moved .last .1 .1 .1 .1 .1 .1 .0) in
+    stepped (a .z) (lent (start row)) (a .n) (row .task-row .result) (own row) (row .before .before .if1 .left) (c .before .before .before .before .before .before .before .before .before .before .before .before .before .before .before .before .before .before .if2 .left) (moved .result) (with (a .tasks .now)) (moved .ensures) (with (put .last .0)) (rw (put .ensures (a .z .tasks)))
 
 pub step-spec : {M : Type 1} → statement M
 step-spec =
@@ -63,9 +79,8 @@ step-spec =
     task-row-requires
     same-length
     returns-2
-    decide-requires
+    move-on-requires
     put-task-row-requires
-    apply-requires
     same-length-2
     same-length-3
     same-length-4
