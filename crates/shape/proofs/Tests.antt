@@ -15,6 +15,10 @@ pub and-and : (a b c : Bool) → pick (pick a b false) c false ≡ pick a (pick 
 and-and true b c = refl
 and-and false b c = refl
 
+pub and-true : (a : Bool) → pick a true false ≡ a
+and-true true = refl
+and-true false = refl
+
 pub and-left : (a b : Bool) → pick a b false ≡ true → a ≡ true
 and-left true b h = refl
 and-left false b h = h
