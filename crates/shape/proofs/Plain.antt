@@ -22,7 +22,7 @@ use Rattle.rows.specs.Rows.{rowsFrom, entryOf, entryRows}
 use Rattle.rows.proofs.Laws.{length-rows, row-read, row-below}
 use Rattle.shape.specs.Parts.{bare}
 use Rattle.shape.specs.Plain.{slotOf, GoesUp, AllGoUp, AllEmpty, Plain}
-use Rattle.shape.proofs.Tests.{and-is, and-left, and-right}
+use Rattle.shape.proofs.Tests.{and-both}
 use Rattle.shape.proofs.Rows.{slots-rows}
 use Rattle.shape.proofs.Lists.{ascends-none}
 
@@ -114,10 +114,22 @@ module _ (ws : List ℕ) (from : ℕ) where
   pub empty-to : (n m : ℕ) → AllEmpty ws from n → m ≤ n → AllEmpty ws from m
   empty-to n m all h i a b = all i a (omega arith)
 
-  pub empty-two : (n : ℕ) → AllEmpty ws from n → (x y : Entry) → x ≡ entryOf ws n → y ≡ entryOf ws (n + 1) → (a b : Bool) → a ≡ isEmptyEntry x → b ≡ isEmptyEntry y → a && b ≡ true → AllEmpty ws from (n + 2)
-  empty-two n all x y q r a b s t h =
-      let h′ : pick a b false ≡ true = sym (and-is a b) ∙ h in
-      empty-to (n + 1 + 1) (n + 2) (empty-one (n + 1) (empty-one n all x q (sym s ∙ and-left a b h′)) y r (sym t ∙ and-right a b h′)) (omega arith)
+  pub empty-join : (n m : ℕ) → AllEmpty ws from n → AllEmpty ws n m → AllEmpty ws from m
+  empty-join n m here there i a b = go (decLt i n)
+    where
+      go : Dec (i < n) → isEmptyEntry (entryOf ws i) ≡ true
+      go (yes l) = here i a l
+      go (no l) = there i (omega arith) b
+
+  pub empty-four : (x y v w : Entry) → x ≡ entryOf ws from → y ≡ entryOf ws (from + 1) → v ≡ entryOf ws (from + 2) → w ≡ entryOf ws (from + 3) → (a b c d : Bool) → a ≡ isEmptyEntry x → b ≡ isEmptyEntry y → c ≡ isEmptyEntry v → d ≡ isEmptyEntry w → ((a && b) && c) && d ≡ true → AllEmpty ws from (from + 4)
+  empty-four x y v w xr yr vr wr a b c d xa yb vc wd h =
+      let three = and-both ((a && b) && c) d h in
+      let two = and-both (a && b) c (three .0) in
+      let one = and-both a b (two .0) in
+      let to-one : AllEmpty ws from (from + 1) = empty-one from empty-none x xr (sym xa ∙ one .0) in
+      let to-two : AllEmpty ws from (from + 2) = empty-to (from + 1 + 1) (from + 2) (empty-one (from + 1) to-one y yr (sym yb ∙ one .1)) (omega arith) in
+      let to-three : AllEmpty ws from (from + 3) = empty-to (from + 2 + 1) (from + 3) (empty-one (from + 2) to-two v vr (sym vc ∙ two .1)) (omega arith) in
+      empty-to (from + 3 + 1) (from + 4) (empty-one (from + 3) to-three w wr (sym wd ∙ three .1)) (omega arith)
 
 -- ---- the list
 either : (b t : Bool) → t ≡ true → pick b true t ≡ true

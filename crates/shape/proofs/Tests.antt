@@ -27,6 +27,10 @@ pub and-right : (a b : Bool) → pick a b false ≡ true → b ≡ true
 and-right true b h = h
 and-right false b h = absurd (false≢true h)
 
+-- what a test by `&` gave
+pub and-both : (a b : Bool) → a && b ≡ true → (a ≡ true) × (b ≡ true)
+and-both a b h = let h′ : pick a b false ≡ true = sym (and-is a b) ∙ h in (and-left a b h′, and-right a b h′)
+
 -- what a test by `|` gave
 pub or-gives : (a b t : Bool) → a || b ≡ t → pick a true b ≡ t
 or-gives a b t h = sym (or-is a b) ∙ h

@@ -122,25 +122,47 @@ fn all_go_up(z: Sizes, entries: &[u64], first: usize, used: u64) -> bool
     true
 }
 
-// The rows are those of unused slots, two in a turn.
+// The rows are those of unused slots.
+fn few_empty(entries: &[u64], from: usize, to: usize) -> bool
+    requires { ⌜ to * 3 ≤ length (now entries) ⌝ }
+    ensures { λ r. ⌜ (r ≡ true → AllEmpty (now (entries .entry)) from to) ⌝ }
+{
+    let mut i = from;
+    while i < to {
+        let x = rows::entry_row(entries, i);
+        if !is_empty_entry(x) {
+            return false;
+        }
+        i += 1;
+    }
+    true
+}
+
+// Four rows from row `i` on are.
+fn four_empty(entries: &[u64], i: usize) -> bool
+    requires { ⌜ (i + 4) * 3 ≤ length (now entries) ⌝ }
+    ensures { λ r. ⌜ (r ≡ true → AllEmpty (now (entries .entry)) i (i + 4)) ⌝ }
+{
+    let a = is_empty_entry(rows::entry_row(entries, i));
+    let b = is_empty_entry(rows::entry_row(entries, i + 1));
+    let c = is_empty_entry(rows::entry_row(entries, i + 2));
+    let d = is_empty_entry(rows::entry_row(entries, i + 3));
+    a & b & c & d
+}
+
+// The same of many rows, four in a turn.
 fn all_empty(entries: &[u64], from: usize, to: usize) -> bool
     requires { ⌜ (from ≤ to) × (to * 3 ≤ length (now entries)) ⌝ }
     ensures { λ r. ⌜ (r ≡ true → AllEmpty (now (entries .entry)) from to) ⌝ }
 {
     let mut i = from;
-    while i + 1 < to {
-        let x = rows::entry_row(entries, i);
-        let y = rows::entry_row(entries, i + 1);
-        if !(is_empty_entry(x) & is_empty_entry(y)) {
+    while 4 <= to - i {
+        if !four_empty(entries, i) {
             return false;
         }
-        i += 2;
+        i += 4;
     }
-    if i < to {
-        let x = rows::entry_row(entries, i);
-        return is_empty_entry(x);
-    }
-    true
+    few_empty(entries, i, to)
 }
 
 // The chunk's slots and list are right, seen without a walk along the list; a right chunk may fail, by a slot that no list reaches.
