@@ -131,6 +131,11 @@ module _ (ws : List ℕ) (from : ℕ) where
       let to-three : AllEmpty ws from (from + 3) = empty-to (from + 2 + 1) (from + 3) (empty-one (from + 2) to-two v vr (sym vc ∙ two .1)) (omega arith) in
       empty-to (from + 3 + 1) (from + 4) (empty-one (from + 3) to-three w wr (sym wd ∙ three .1)) (omega arith)
 
+  pub empty-eight : (n : ℕ) → AllEmpty ws from n → (a b : Bool) → (a ≡ true → AllEmpty ws n (n + 4)) → (b ≡ true → AllEmpty ws (n + 4) (n + 4 + 4)) → a && b ≡ true → AllEmpty ws from (n + 8)
+  empty-eight n here a b four eight h =
+      let both = and-both a b h in
+      empty-to (n + 4 + 4) (n + 8) (empty-join (n + 4) (n + 4 + 4) (empty-join n (n + 4) here (four (both .0))) (eight (both .1))) (omega arith)
+
 -- ---- the list
 either : (b t : Bool) → t ≡ true → pick b true t ≡ true
 either true t h = refl

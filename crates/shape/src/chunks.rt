@@ -150,17 +150,17 @@ fn four_empty(entries: &[u64], i: usize) -> bool
     a & b & c & d
 }
 
-// The same of many rows, four in a turn.
+// The same of many rows, eight in a turn.
 fn all_empty(entries: &[u64], from: usize, to: usize) -> bool
     requires { ⌜ (from ≤ to) × (to * 3 ≤ length (now entries)) ⌝ }
     ensures { λ r. ⌜ (r ≡ true → AllEmpty (now (entries .entry)) from to) ⌝ }
 {
     let mut i = from;
-    while 4 <= to - i {
-        if !four_empty(entries, i) {
+    while 8 <= to - i {
+        if !(four_empty(entries, i) & four_empty(entries, i + 4)) {
             return false;
         }
-        i += 4;
+        i += 8;
     }
     few_empty(entries, i, to)
 }

@@ -3,7 +3,7 @@ use mathlib.Core.Bool.{false≢true}
 use native.Mathlib.Omega.{arith}
 use borrow.Author.Tests.{not-false}
 use Rattle.shape.specs.Plain.{AllEmpty}
-use Rattle.shape.proofs.Plain.{empty-none, empty-join}
+use Rattle.shape.proofs.Plain.{empty-none, empty-join, empty-eight}
 use Rattle.shape.proofs.chunks.all_empty.Statement.{statement}
 use Rattle.shape.proofs.chunks.all_empty.Tie as tie
 
@@ -22,6 +22,12 @@ sub-loop c = omega arith
 four-empty-requires : tie.Need-four-empty-requires Inv-loop μ-loop
 four-empty-requires c κs = omega arith
 
+add-four-empty : tie.Need-add-four-empty Inv-loop μ-loop
+add-four-empty c = omega arith
+
+four-empty-requires-2 : tie.Need-four-empty-requires-2 Inv-loop μ-loop
+four-empty-requires-2 c κs = omega arith
+
 returns : tie.Need-returns Inv-loop μ-loop
 returns c = λ e. absurd (false≢true e)
 
@@ -32,7 +38,7 @@ loop-less : tie.Need-loop-less Inv-loop μ-loop
 loop-less c = omega arith
 
 loop-again : tie.Need-loop-again Inv-loop μ-loop
-loop-again c = (omega arith, empty-join (c .before .before .before .before .before .args .entries .now) _ _ _ (c .before .before .before .loop .inv .1) (c .before .four-empty .ensures (not-false _ (c .if1 .left))))
+loop-again c = (omega arith, empty-eight (c .before .before .before .before .before .before .args .entries .now) _ _ (c .before .before .before .before .loop .inv .1) _ _ (c .before .before .four-empty .ensures) (c .before .four-empty2 .ensures) (not-false _ (c .if1 .left)))
 
 few-empty-requires : tie.Need-few-empty-requires Inv-loop μ-loop
 few-empty-requires c κs = omega arith
@@ -49,6 +55,8 @@ all-empty-spec =
     loop-holds
     sub-loop
     four-empty-requires
+    add-four-empty
+    four-empty-requires-2
     returns
     add-i
     loop-less
