@@ -138,16 +138,16 @@ fn few_empty(entries: &[u64], from: usize, to: usize) -> bool
     true
 }
 
-// Four rows from row `i` on are.
+// Four rows from row `i` on are such.
 fn four_empty(entries: &[u64], i: usize) -> bool
     requires { ⌜ (i + 4) * 3 ≤ length (now entries) ⌝ }
     ensures { λ r. ⌜ (r ≡ true → AllEmpty (now (entries .entry)) i (i + 4)) ⌝ }
 {
-    let a = is_empty_entry(rows::entry_row(entries, i));
-    let b = is_empty_entry(rows::entry_row(entries, i + 1));
-    let c = is_empty_entry(rows::entry_row(entries, i + 2));
-    let d = is_empty_entry(rows::entry_row(entries, i + 3));
-    a & b & c & d
+    let one = is_empty_entry(rows::entry_row(entries, i));
+    let two = is_empty_entry(rows::entry_row(entries, i + 1));
+    let three = is_empty_entry(rows::entry_row(entries, i + 2));
+    let four = is_empty_entry(rows::entry_row(entries, i + 3));
+    one & two & three & four
 }
 
 // The same of many rows, eight in a turn.
