@@ -22,6 +22,10 @@ ne-lt-or-lt a b n = go (decLt a b)
 pub row-below : (m n c e : ℕ) → c < m → e < n → c * n + e < m * n
 row-below m n c e h k = omega (arith, mul-le-mul-right n h, suc-mul c n)
 
+-- all entries of chunk c
+pub rows-below : (m n c : ℕ) → c < m → c * n + n ≤ m * n
+rows-below m n c h = omega (arith, mul-le-mul-right n h, suc-mul c n)
+
 module _ {A : Type 0} where
   pub length-rows : (f : ℕ → A) (i n : ℕ) → length (rowsFrom f i n) ≡ n
   unfolding rowsFrom

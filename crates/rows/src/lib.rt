@@ -208,6 +208,14 @@ pub fn entry_number(z: Sizes, c: ChunkNo, e: EntryNo) -> usize
     (c.0 as usize) * z.entries + e.0 as usize
 }
 
+// The row number of a chunk's first slot.
+pub fn first_number(z: Sizes, c: ChunkNo) -> usize
+    requires { ⌜ (c .0 < z .chunks) × (z .chunks * z .entries < 2 ^ 64) ⌝ }
+    ensures { λ r. ⌜ (r ≡ c .0 * z .entries) × (r + z .entries ≤ z .chunks * z .entries) ⌝ }
+{
+    (c.0 as usize) * z.entries
+}
+
 // A chunk's entry.
 pub fn entry_at(z: Sizes, entries: &[u64], c: ChunkNo, e: EntryNo) -> Entry
     requires { ⌜ Numbers z (now entries) c e ⌝ }

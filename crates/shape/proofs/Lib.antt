@@ -4,3 +4,4 @@ pub mod Lists
 pub mod Chain
 pub mod Holds
 pub mod Whole
+pub mod Plain

@@ -1,7 +1,7 @@
 -- One law of `each` over rows: what is left of the test, row by row.
 use Prim.Native.Nat.{ℕ, suc, _+_, _*_, _-_, _≤_, _<_}
 use mathlib.Core.Path.{_≡_, sym, ap, _∙_}
-use mathlib.Core.Bool.{Bool, true, false}
+use mathlib.Core.Bool.{Bool, true, false, _&&_}
 use mathlib.Core.List.{List}
 use native.Mathlib.Nat.{mul-le-mul-right, suc-mul}
 use native.Mathlib.Omega.{arith}
@@ -19,7 +19,7 @@ use Rattle.rules.specs.Shape.{each, slotsOf, isNone, numbers, isEmptyChunk, chu
 use Rattle.rows.specs.Rows.{rowsFrom}
 use Rattle.rows.proofs.Laws.{length-rows, row-read}
 use Rattle.shape.specs.Parts.{bare, rowRight}
-use Rattle.shape.proofs.Tests.{and-right}
+use Rattle.shape.proofs.Tests.{and-is, and-and, and-right, and-true}
 
 -- the test of the rows from i on, of n
 abbrev pub rest : {A : Type 0} → (ℕ → A → Bool) → (ℕ → A) → ℕ → ℕ → Bool
@@ -46,6 +46,16 @@ module _ {A : Type 0} (p : ℕ → A → Bool) (f : ℕ → A) (n i : ℕ) where
 
   pub each-passes : i < n → (x : A) → x ≡ f i → p i x ≡ true → rest p f n i ≡ rest p f n (i + 1)
   each-passes h x e q = turn h ∙ ap (λ (b : Bool). pick b (rest p f n (i + 1)) false) (ap (p i) (sym e) ∙ q)
+
+  -- what the rows before gave, gathered, and the row that was read
+  pub each-gathers : i < n → (ok : Bool) (x : A) → x ≡ f i → pick ok (rest p f n i) false ≡ pick (ok && p i x) (rest p f n (i + 1)) false
+  each-gathers h ok x e =
+      ap (λ (b : Bool). pick ok b false) (turn h ∙ ap (λ (y : A). pick (p i y) (rest p f n (i + 1)) false) (sym e))
+      ∙ sym (and-and ok (p i x) (rest p f n (i + 1)))
+      ∙ ap (λ (b : Bool). pick b (rest p f n (i + 1)) false) (sym (and-is ok (p i x)))
+
+  pub each-gathered : n ≤ i → (ok : Bool) → pick ok (rest p f n i) false ≡ ok
+  each-gathered h ok = ap (λ (b : Bool). pick ok b false) (each-end h) ∙ and-true ok
 
 -- a list is the rows that are read of it
 pub list-rows : {A : Type 0} (l : List A) (d : A) → l ≡ rowsFrom (λ i. getD l i d) 0 (length l)

@@ -15,6 +15,10 @@ pub and-and : (a b c : Bool) → pick (pick a b false) c false ≡ pick a (pick 
 and-and true b c = refl
 and-and false b c = refl
 
+pub and-true : (a : Bool) → pick a true false ≡ a
+and-true true = refl
+and-true false = refl
+
 pub and-left : (a b : Bool) → pick a b false ≡ true → a ≡ true
 and-left true b h = refl
 and-left false b h = h
@@ -22,6 +26,10 @@ and-left false b h = h
 pub and-right : (a b : Bool) → pick a b false ≡ true → b ≡ true
 and-right true b h = h
 and-right false b h = absurd (false≢true h)
+
+-- what a test by `&` gave
+pub and-both : (a b : Bool) → a && b ≡ true → (a ≡ true) × (b ≡ true)
+and-both a b h = let h′ : pick a b false ≡ true = sym (and-is a b) ∙ h in (and-left a b h′, and-right a b h′)
 
 -- what a test by `|` gave
 pub or-gives : (a b t : Bool) → a || b ≡ t → pick a true b ≡ t

@@ -7,14 +7,16 @@ use rules::Entry;
 use rules::EntryNo;
 use rules::NONE;
 use rules::Sizes;
+ghost use mathlib.Core.Bool.{true};
 ghost use mathlib.Core.Path.{_≡_};
-ghost use Prim.Native.Nat.{_*_, _≤_};
+ghost use Prim.Native.Nat.{_+_, _*_, _≤_};
 ghost use lib.ListN.{length};
 ghost use lib.Dec.{leb};
 ghost use Rattle.rules.specs.Words.{chunkNo};
 ghost use Rattle.rules.specs.Shape.{numbers, isEmptyEntry, isEmptyChunk, each, slotsOf, slotRight, chunkRight, ascendsFrom, chainCount, chained};
 ghost use Rattle.rows.specs.Rows.{chunkRows, entryRows};
 ghost use Rattle.shape.specs.Parts.{bare, listed, headed, rowRight, least, countOf, Slots};
+ghost use Rattle.shape.specs.Plain.{slotOf, GoesUp, AllGoUp, AllEmpty, Plain};
 
 // ---- rows
 
@@ -88,6 +90,96 @@ fn slots_right(z: Sizes, entries: &[u64], c: ChunkNo, used: u64) -> bool
     true
 }
 
+// The entry's handle is one or none, and it is the last, or a used entry of a higher key comes next.
+fn goes_up(z: Sizes, entries: &[u64], first: usize, used: u64, x: Entry) -> bool
+    requires { ⌜ (first + used) * 3 ≤ length (now entries) ⌝ }
+    ensures { λ r. ⌜ (r ≡ true → GoesUp z (slotOf (now (entries .entry)) first) used x) ⌝ }
+{
+    if !in_table(z.handles, x.handle.0) {
+        return false;
+    }
+    if x.next.0 < used {
+        let y = rows::entry_row(entries, first + x.next.0 as usize);
+        return x.key < y.key;
+    }
+    x.next.0 == NONE
+}
+
+// So does every used slot, from row `first` on.
+fn all_go_up(z: Sizes, entries: &[u64], first: usize, used: u64) -> bool
+    requires { ⌜ (first + used) * 3 ≤ length (now entries) ⌝ }
+    ensures { λ r. ⌜ (r ≡ true → AllGoUp z (slotOf (now (entries .entry)) first) used used) ⌝ }
+{
+    let size = used as usize;
+    let mut i = 0;
+    while i < size {
+        let x = rows::entry_row(entries, first + i);
+        if !goes_up(z, entries, first, used, x) {
+            return false;
+        }
+        i += 1;
+    }
+    true
+}
+
+// The rows are those of unused slots.
+fn few_empty(entries: &[u64], from: usize, to: usize) -> bool
+    requires { ⌜ to * 3 ≤ length (now entries) ⌝ }
+    ensures { λ r. ⌜ (r ≡ true → AllEmpty (now (entries .entry)) from to) ⌝ }
+{
+    let mut i = from;
+    while i < to {
+        let x = rows::entry_row(entries, i);
+        if !is_empty_entry(x) {
+            return false;
+        }
+        i += 1;
+    }
+    true
+}
+
+// Four rows from row `i` on are such.
+fn four_empty(entries: &[u64], i: usize) -> bool
+    requires { ⌜ (i + 4) * 3 ≤ length (now entries) ⌝ }
+    ensures { λ r. ⌜ (r ≡ true → AllEmpty (now (entries .entry)) i (i + 4)) ⌝ }
+{
+    let one = is_empty_entry(rows::entry_row(entries, i));
+    let two = is_empty_entry(rows::entry_row(entries, i + 1));
+    let three = is_empty_entry(rows::entry_row(entries, i + 2));
+    let four = is_empty_entry(rows::entry_row(entries, i + 3));
+    one & two & three & four
+}
+
+// The same of many rows, eight in a turn.
+fn all_empty(entries: &[u64], from: usize, to: usize) -> bool
+    requires { ⌜ (from ≤ to) × (to * 3 ≤ length (now entries)) ⌝ }
+    ensures { λ r. ⌜ (r ≡ true → AllEmpty (now (entries .entry)) from to) ⌝ }
+{
+    let mut i = from;
+    while 8 <= to - i {
+        if !(four_empty(entries, i) & four_empty(entries, i + 4)) {
+            return false;
+        }
+        i += 8;
+    }
+    few_empty(entries, i, to)
+}
+
+// The chunk's slots and list are right, seen without a walk along the list; a right chunk may fail, by a slot that no list reaches.
+fn is_plain(z: Sizes, entries: &[u64], c: ChunkNo, used: u64, head: EntryNo) -> bool
+    requires { ⌜ Slots z (now entries) c × (used ≤ z .entries) ⌝ }
+    ensures { λ r. ⌜ (r ≡ true → Plain z (entryRows (z .chunks * z .entries) (now (entries .entry))) c used head) ⌝ }
+{
+    let first = rows::first_number(z, c);
+    if !in_table(used as usize, head.0) {
+        return false;
+    }
+    if !all_empty(entries, first + used as usize, first + z.entries) {
+        return false;
+    }
+    all_go_up(z, entries, first, used)
+}
+
 // The key may follow: at the start any may, and then one above the last.
 fn follows(start: bool, last: u64, key: u64) -> bool
     ensures { λ r. ⌜ r ≡ leb (least start last) key ⌝ }
@@ -131,6 +223,9 @@ fn chunk_right(z: Sizes, entries: &[u64], n: usize, x: Chunk) -> bool
     let c = ChunkNo(n as u64);
     if !row_right(z, x) {
         return false;
+    }
+    if is_plain(z, entries, c, x.used, x.head) {
+        return true;
     }
     if !slots_right(z, entries, c, x.used) {
         return false;

@@ -50,12 +50,11 @@ pub fn has_shape(
 fn marks_right(marks: &[u64]) -> bool
     ensures { λ r. ⌜ r ≡ each (λ n m. leb m 1) 0 (now (marks .entry)) ⌝ }
 {
+    let mut ok = true;
     let mut i = 0;
     while i < marks.len() {
-        if 1 < marks[i] {
-            return false;
-        }
+        ok = ok & (marks[i] <= 1);
         i += 1;
     }
-    true
+    ok
 }

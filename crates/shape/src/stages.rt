@@ -3,12 +3,12 @@ ghost use Rattle.shape.specs.Parts.{Listed};
 
 // What a stage holds of each: 0 never, 1 always, 2 perhaps.
 pub struct Holds {
-    pub chunk: u64,
-    pub entry: u64,
-    pub old: u64,
-    pub new: u64,
-    pub published: u64,
-    pub swapped: u64,
+    pub chunk: u8,
+    pub entry: u8,
+    pub old: u8,
+    pub new: u8,
+    pub published: u8,
+    pub swapped: u8,
 }
 
 // The stage list.

@@ -16,7 +16,7 @@ ghost use Rattle.rows.specs.Rows.{taskRows, entryRows};
 ghost use Rattle.shape.specs.Parts.{kept, functionRight, numbersRight, holdOf, entryWithChunk, Long, Held, Slots};
 
 // A number is held as the list says.
-fn held(how: u64, size: usize, n: u64) -> bool
+fn held(how: u8, size: usize, n: u64) -> bool
     ensures { λ r. ⌜ r ≡ heldAs how size n ⌝ }
 {
     if how == 0 {
@@ -29,10 +29,10 @@ fn held(how: u64, size: usize, n: u64) -> bool
 }
 
 // A flag is set as the list says.
-fn flagged(how: u64, n: u64) -> bool
+fn flagged(how: u8, n: u64) -> bool
     ensures { λ r. ⌜ r ≡ flagAs how n ⌝ }
 {
-    if how == 2 { n <= 1 } else { n == how }
+    if how == 2 { n <= 1 } else { n == how as u64 }
 }
 
 // The stage is one of the operation's.

@@ -1,13 +1,13 @@
 use Prim.Native.Nat.{ℕ, _-_}
 use mathlib.Core.Path.{_≡_, refl, sym, _∙_, ap}
-use mathlib.Core.Bool.{Bool}
+use mathlib.Core.Bool.{Bool, false}
 use native.Mathlib.Omega.{arith}
 use borrow.Author.Needs.{needs}
-use borrow.Author.Tests.{le-leb, lt-leb}
 use lib.Dec.{leb}
 use lib.ListN.{length, getD}
+use Rattle.rules.specs.Words.{pick}
 use Rattle.rules.specs.Shape.{each}
-use Rattle.shape.proofs.Rows.{rest, each-start, each-end, each-fails, each-passes, list-rows}
+use Rattle.shape.proofs.Rows.{rest, each-start, each-gathers, each-gathered, list-rows}
 use Rattle.shape.proofs.marks_right.Statement.{statement}
 use Rattle.shape.proofs.marks_right.Tie as tie
 
@@ -15,22 +15,19 @@ abbrev marked : ℕ → ℕ → Bool
 marked n m = leb m 1
 
 abbrev Inv-loop : tie.InvT-loop
-Inv-loop marks i₀ i = each marked 0 marks ≡ rest marked (λ j. getD marks j 0) (length marks) i
+Inv-loop marks ok₀ i₀ ok i = each marked 0 marks ≡ pick ok (rest marked (λ j. getD marks j 0) (length marks) i) false
 
 abbrev μ-loop : tie.MeasureT-loop
-μ-loop marks i₀ i = length marks - i
+μ-loop marks ok₀ i₀ ok i = length marks - i
 
 loop-holds : tie.Need-loop-holds Inv-loop μ-loop
 loop-holds c = ap (each marked 0) (list-rows (c .args .marks .now) 0) ∙ each-start marked _ _
 
-mul-if1 : tie.Need-mul-if1 Inv-loop μ-loop
-mul-if1 c = search needs
+mul-ok : tie.Need-mul-ok Inv-loop μ-loop
+mul-ok c = search needs
 
-shared-slice-read-if1 : tie.Need-shared-slice-read-if1 Inv-loop μ-loop
-shared-slice-read-if1 c = search needs
-
-returns : tie.Need-returns Inv-loop μ-loop
-returns c = sym (c .before .before .before .loop .inv ∙ each-fails marked _ _ _ (c .before .before .loop-test .taken) _ refl (lt-leb _ _ (c .if1 .taken)))
+shared-slice-read-ok : tie.Need-shared-slice-read-ok Inv-loop μ-loop
+shared-slice-read-ok c = search needs
 
 add-i : tie.Need-add-i Inv-loop μ-loop
 add-i c = omega arith
@@ -39,10 +36,10 @@ loop-less : tie.Need-loop-less Inv-loop μ-loop
 loop-less c = omega arith
 
 loop-again : tie.Need-loop-again Inv-loop μ-loop
-loop-again c = c .before .before .before .loop .inv ∙ each-passes marked _ _ _ (c .before .before .loop-test .taken) _ refl (le-leb _ _ (c .if1 .left))
+loop-again c = c .before .before .loop .inv ∙ each-gathers marked (λ j. getD (c .before .before .before .args .marks .now) j 0) _ _ (c .before .loop-test .taken) (c .before .before .loop .ok) _ refl
 
-returns-2 : tie.Need-returns-2 Inv-loop μ-loop
-returns-2 c = sym (c .before .loop .inv ∙ each-end marked _ _ _ (c .loop-test .left))
+returns : tie.Need-returns Inv-loop μ-loop
+returns c = sym (c .before .loop .inv ∙ each-gathered marked _ _ _ (c .loop-test .left) _)
 
 pub marks-right-spec : {M : Type 1} → statement M
 marks-right-spec =
@@ -51,10 +48,9 @@ marks-right-spec =
     Inv-loop
     μ-loop
     loop-holds
-    mul-if1
-    shared-slice-read-if1
-    returns
+    mul-ok
+    shared-slice-read-ok
     add-i
     loop-less
     loop-again
-    returns-2)
+    returns)
