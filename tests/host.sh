@@ -21,9 +21,9 @@ gcc -std=c11 -O2 -g -Wall -Wextra -Werror -pedantic -o "$made/example" examples/
 valgrind -q --error-exitcode=1 "$made/example" >"$made/example.out"
 same "$made/example.out" "the example"
 
-# reports and tables against the second implementation, through the C boundary; more with SEED and CALLS as arguments
+# the second implementation by itself; then reports and tables against it, through the C boundary; more with SEED and CALLS as arguments
 export CARGO_TARGET_DIR=$PWD/target/cargo KAMRDUCH_ARCHIVE=$PWD/$archive
-(cd rust && cargo build --offline --locked --release --quiet)
+(cd rust && cargo build --offline --locked --release --quiet && cargo test --offline --locked --release --quiet -p model)
 target/cargo/release/compare "${@:-1}"
 
 # the x86-64 archive itself, where this machine only emulates it: the example, and a shorter comparison

@@ -1,17 +1,17 @@
-//! A second implementation of document 01, in plain Rust with typed structs. It shares no text with the proved one.
+//! A second implementation of document 01, in plain Rust with typed structs. Its author had document 01 and the header, and none of the proved code or its rules.
 
 mod calls;
 mod rebalance;
 mod shape;
 mod stages;
+#[cfg(test)]
+mod tests;
 pub mod words;
 
 pub const TASKS: usize = 8;
 pub const CHUNKS: usize = 32;
 pub const ENTRIES: usize = 32;
 pub const HANDLES: usize = 560;
-/// A copy of this many entries or fewer goes to one new chunk.
-pub const ONE_CHUNK: usize = 16;
 
 pub type ChunkNo = usize;
 pub type EntryNo = usize;
@@ -161,7 +161,7 @@ pub enum Report {
 }
 
 impl Report {
-    /// Its number and two values, as `docs/PROMISES.md` has them.
+    /// Its number and two values, as the header has them.
     pub fn told(self) -> (u64, u64, u64) {
         match self {
             Report::Refused(n) => (0, n, 0),
@@ -181,22 +181,12 @@ impl Report {
     }
 }
 
-impl Function {
-    pub fn of(n: u64) -> Option<Function> {
-        match n {
-            1 => Some(Function::Add),
-            2 => Some(Function::Larger),
-            3 => Some(Function::Or),
-            _ => None,
-        }
-    }
-
-    pub fn applied(self, value: u64, amount: u64) -> u64 {
-        match self {
-            Function::Add => value.wrapping_add(amount),
-            Function::Larger => value.max(amount),
-            Function::Or => value | amount,
-        }
+impl Status {
+    /// The status that has the header's number.
+    pub fn from_number(number: u64) -> Option<Status> {
+        [Status::Unused, Status::Live, Status::New, Status::Retired]
+            .into_iter()
+            .find(|status| *status as u64 == number)
     }
 }
 
@@ -211,47 +201,102 @@ impl Operation {
         Operation::Scan,
     ];
 
-    pub fn of(n: u64) -> Option<Operation> {
-        let i = usize::try_from(n.checked_sub(1)?).ok()?;
-        Operation::ALL.get(i).copied()
+    /// Its number, 1 to 7.
+    pub fn number(self) -> u64 {
+        self as u64 + 1
     }
 
-    pub fn inserts(self) -> bool {
-        matches!(self, Operation::Put | Operation::PutIfAbsent | Operation::Upsert)
+    /// The operation that has the number.
+    pub fn from_number(number: u64) -> Option<Operation> {
+        Operation::ALL.into_iter().find(|operation| operation.number() == number)
     }
 
+    /// Upsert and compute apply a function.
     pub fn uses_function(self) -> bool {
         matches!(self, Operation::Upsert | Operation::Compute)
+    }
+
+    /// All but get and remove have a value, an amount or an upper end.
+    pub fn uses_argument(self) -> bool {
+        !matches!(self, Operation::Get | Operation::Remove)
+    }
+}
+
+impl Function {
+    /// The function that has the number, 1 to 3.
+    pub fn from_number(number: u64) -> Option<Function> {
+        match number {
+            1 => Some(Function::Add),
+            2 => Some(Function::Larger),
+            3 => Some(Function::Or),
+            _ => None,
+        }
+    }
+
+    /// The value that it makes of a stored value and an amount.
+    pub fn apply(self, value: u64, amount: u64) -> u64 {
+        match self {
+            Function::Add => value.wrapping_add(amount),
+            Function::Larger => value.max(amount),
+            Function::Or => value | amount,
+        }
+    }
+}
+
+impl Stage {
+    pub const ALL: [Stage; 22] = [
+        Stage::Locate,
+        Stage::Find,
+        Stage::Read,
+        Stage::Check,
+        Stage::Apply,
+        Stage::TakeEntry,
+        Stage::Link,
+        Stage::TakeHandle,
+        Stage::Write,
+        Stage::Publish,
+        Stage::Swap,
+        Stage::Unpublish,
+        Stage::PublishAbsence,
+        Stage::SwapAbsence,
+        Stage::UnpublishAbsence,
+        Stage::LocateAgain,
+        Stage::FindAgain,
+        Stage::ReadAgain,
+        Stage::PublishRemoval,
+        Stage::SwapRemoval,
+        Stage::UnpublishRemoval,
+        Stage::Scan,
+    ];
+
+    /// Its number in the stage list, 1 to 22.
+    pub fn number(self) -> u64 {
+        self as u64 + 1
+    }
+
+    /// The stage that has the number; 0 is idle and no stage of a task at work.
+    pub fn from_number(number: u64) -> Option<Stage> {
+        let index = usize::try_from(number.checked_sub(1)?).ok()?;
+        Stage::ALL.get(index).copied()
     }
 }
 
 impl Chunk {
-    /// The linked entries, in order.
-    pub fn linked(&self) -> Linked<'_> {
-        Linked {
-            entries: &self.entries,
-            at: self.head,
-        }
+    /// The linked entries with their numbers, in order.
+    pub fn linked(&self) -> impl Iterator<Item = (EntryNo, &Entry)> + '_ {
+        let follow = |&(_, entry): &(EntryNo, &Entry)| self.slot(entry.next);
+        std::iter::successors(self.slot(self.head), follow).take(ENTRIES)
     }
 
+    /// The entry of a number that a head or a next names, with that number.
+    fn slot(&self, number: Option<EntryNo>) -> Option<(EntryNo, &Entry)> {
+        let number = number?;
+        Some((number, self.entries.get(number)?))
+    }
+
+    /// The linked entry that has the key.
     pub fn find(&self, key: u64) -> Option<EntryNo> {
-        self.linked().find(|&(_, e)| e.key == key).map(|(n, _)| n)
-    }
-}
-
-pub struct Linked<'a> {
-    entries: &'a [Entry; ENTRIES],
-    at: Option<EntryNo>,
-}
-
-impl<'a> Iterator for Linked<'a> {
-    type Item = (EntryNo, &'a Entry);
-
-    fn next(&mut self) -> Option<Self::Item> {
-        let n = self.at?;
-        let e = &self.entries[n];
-        self.at = e.next;
-        Some((n, e))
+        self.linked().find(|(_, entry)| entry.key == key).map(|(number, _)| number)
     }
 }
 
@@ -269,34 +314,14 @@ impl Tables {
         }
     }
 
+    /// The numbers of the live chunks, from the first.
+    pub fn chain(&self) -> impl Iterator<Item = ChunkNo> + '_ {
+        std::iter::successors(Some(self.first), |&number| self.chunks.get(number)?.next).take(CHUNKS)
+    }
+
     /// The live chunk whose range has the key.
     pub fn locate(&self, key: u64) -> ChunkNo {
-        let mut at = self.first;
-        while let Some(next) = self.chunks[at].next {
-            if self.chunks[next].min > key {
-                break;
-            }
-            at = next;
-        }
-        at
-    }
-
-    pub fn unused(&self) -> impl Iterator<Item = ChunkNo> + '_ {
-        (0..CHUNKS).filter(|&c| self.chunks[c].status == Status::Unused)
-    }
-
-    pub fn lowest_free(&self) -> Option<HandleNo> {
-        let mut taken = [false; HANDLES];
-        for c in self.chunks.iter().filter(|c| c.status != Status::Unused) {
-            for h in c.entries[..c.used].iter().filter_map(|e| e.handle) {
-                taken[h] = true;
-            }
-        }
-        for t in self.tasks.iter().flatten() {
-            for h in [t.old, t.new].into_iter().flatten() {
-                taken[h] = true;
-            }
-        }
-        taken.iter().position(|&t| !t)
+        let starts_by = |number: &ChunkNo| self.chunks.get(*number).is_some_and(|chunk| chunk.min <= key);
+        self.chain().take_while(starts_by).last().unwrap_or(self.first)
     }
 }

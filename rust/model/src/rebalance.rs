@@ -1,98 +1,104 @@
-//! The rebalance: begin, drain, copy, swap in, release.
+//! The stages of the rebalance, on tables that have the shape.
+use crate::calls::refusal;
 use crate::*;
 
+/// Up to this many entries go to one new chunk.
+const ONE_CHUNK: usize = 16;
+
+impl Chunk {
+    /// A new chunk that has the entries' keys and handles in its first slots, linked in order.
+    fn of_entries(min: u64, taken: &[Entry]) -> Chunk {
+        let used = taken.len();
+        let mut chunk = Chunk {
+            status: Status::New,
+            min,
+            used,
+            head: (used > 0).then_some(0),
+            ..Chunk::default()
+        };
+        for (number, (slot, entry)) in chunk.entries.iter_mut().zip(taken).enumerate() {
+            let next = number + 1;
+            *slot = Entry {
+                next: (next < used).then_some(next),
+                ..*entry
+            };
+        }
+        chunk
+    }
+}
+
 impl Tables {
-    pub(crate) fn begins(&mut self, key: u64) -> Report {
-        if self.rebalance != Rebalance::Idle {
-            return Report::Refused(6);
-        }
-        if self.unused().take(2).count() < 2 {
-            return Report::Refused(7);
-        }
+    /// Begin: the live chunk that has the key is frozen.
+    pub(crate) fn freeze(&mut self, key: u64) -> Report {
         let old = self.locate(key);
         self.chunks[old].frozen = true;
         self.rebalance = Rebalance::Drain(old);
         Report::MovedOn
     }
 
-    pub(crate) fn rebalances(&mut self) -> Report {
-        match self.rebalance {
-            Rebalance::Idle => return Report::Refused(8),
-            Rebalance::Drain(old) => {
-                if self.tasks.iter().flatten().any(|t| t.published && t.chunk == Some(old)) {
-                    return Report::Waiting;
-                }
-                self.rebalance = Rebalance::Copy(old);
-            }
-            Rebalance::Copy(old) => self.copy(old),
-            Rebalance::SwapIn(old, new, second) => self.swap_in(old, new, second),
-            Rebalance::Release(old, ..) => {
-                if self.tasks.iter().flatten().any(|t| t.chunk == Some(old)) {
-                    return Report::Waiting;
-                }
-                self.chunks[old] = Chunk::default();
-                self.rebalance = Rebalance::Idle;
-                return Report::Released;
-            }
+    /// Drain: waits for every publisher on the old chunk.
+    pub(crate) fn drain(&mut self, old: ChunkNo) -> Report {
+        if self.tasks.iter().flatten().any(|task| task.published && task.chunk == Some(old)) {
+            return Report::Waiting;
         }
+        self.rebalance = Rebalance::Copy(old);
         Report::MovedOn
     }
 
-    /// The linked entries that name a handle, in order, into one new chunk or two.
-    fn copy(&mut self, old: ChunkNo) {
-        let from = &self.chunks[old];
-        let mut taken = [Entry::default(); ENTRIES];
-        let mut n = 0;
-        for (_, e) in from.linked().filter(|(_, e)| e.handle.is_some()) {
-            taken[n] = *e;
-            n += 1;
-        }
-        let (min, half) = (from.min, if n <= ONE_CHUNK { n } else { n - n / 2 });
-        let mut unused = self.unused();
-        let (new, second) = (unused.next().unwrap(), unused.next().unwrap());
-        drop(unused);
-        self.chunks[new] = Chunk::copied(min, &taken[..half]);
-        let second = (half < n).then_some(second);
-        if let Some(c) = second {
-            self.chunks[c] = Chunk::copied(taken[half].key, &taken[half..n]);
-        }
+    /// Copy: the linked entries that name a handle go to one new chunk or to two.
+    pub(crate) fn copy(&mut self, old: ChunkNo) -> Report {
+        let Some((new, spare)) = self.two_unused() else {
+            return Report::Refused(refusal::NO_SHAPE);
+        };
+        let Chunk { min, .. } = self.chunks[old];
+        let taken: Vec<Entry> = self.chunks[old]
+            .linked()
+            .map(|(_, entry)| *entry)
+            .filter(|entry| entry.handle.is_some())
+            .collect();
+        let half = if taken.len() <= ONE_CHUNK { taken.len() } else { taken.len().div_ceil(2) };
+        let (lower, upper) = taken.split_at(half);
+        self.chunks[new] = Chunk::of_entries(min, lower);
+        let second = upper.first().map(|entry| {
+            self.chunks[spare] = Chunk::of_entries(entry.key, upper);
+            spare
+        });
         self.rebalance = Rebalance::SwapIn(old, new, second);
+        Report::MovedOn
     }
 
-    /// The new chunks in the old one's place in the chain.
-    fn swap_in(&mut self, old: ChunkNo, new: ChunkNo, second: Option<ChunkNo>) {
-        match (0..CHUNKS).find(|&c| self.chunks[c].status == Status::Live && self.chunks[c].next == Some(old)) {
+    /// The two lowest numbers of unused chunks.
+    fn two_unused(&self) -> Option<(ChunkNo, ChunkNo)> {
+        let mut unused = (0..CHUNKS).filter(|&number| self.chunks[number].status == Status::Unused);
+        Some((unused.next()?, unused.next()?))
+    }
+
+    /// Swap in: the new chunks take the old one's place in the chain, and it retires, else as it was.
+    pub(crate) fn swap_in(&mut self, old: ChunkNo, new: ChunkNo, second: Option<ChunkNo>) -> Report {
+        let before = self.chain().find(|&number| self.chunks[number].next == Some(old));
+        match before {
             Some(before) => self.chunks[before].next = Some(new),
             None => self.first = new,
         }
-        let next = self.chunks[old].next;
-        self.chunks[new].next = second.or(next);
-        self.chunks[new].status = Status::Live;
-        if let Some(c) = second {
-            self.chunks[c].next = next;
-            self.chunks[c].status = Status::Live;
+        if second.is_some() {
+            self.chunks[new].next = second;
+        }
+        self.chunks[second.unwrap_or(new)].next = self.chunks[old].next;
+        for number in std::iter::once(new).chain(second) {
+            self.chunks[number].status = Status::Live;
         }
         self.chunks[old].status = Status::Retired;
         self.rebalance = Rebalance::Release(old, new, second);
+        Report::MovedOn
     }
-}
 
-impl Chunk {
-    /// A new chunk with these entries, linked in order.
-    fn copied(min: u64, taken: &[Entry]) -> Chunk {
-        let mut c = Chunk {
-            status: Status::New,
-            min,
-            used: taken.len(),
-            head: (!taken.is_empty()).then_some(0),
-            ..Chunk::default()
-        };
-        for (i, e) in taken.iter().enumerate() {
-            c.entries[i] = Entry {
-                next: (i + 1 < taken.len()).then_some(i + 1),
-                ..*e
-            };
+    /// Release: waits for every task that holds the old chunk, then clears it.
+    pub(crate) fn release(&mut self, old: ChunkNo) -> Report {
+        if self.tasks.iter().flatten().any(|task| task.chunk == Some(old)) {
+            return Report::Waiting;
         }
-        c
+        self.chunks[old] = Chunk::default();
+        self.rebalance = Rebalance::Idle;
+        Report::Released
     }
 }

@@ -1,152 +1,261 @@
-//! The shape, checked by every call first. That each number lies in its table is the conversion's part (`words`).
+//! The shape, which every call checks first.
 use crate::*;
 
-/// What a stage holds: never, always or perhaps.
-#[derive(Clone, Copy, PartialEq, Eq)]
-enum Holds {
+/// Whether a stage has a hold.
+#[derive(Clone, Copy)]
+enum Hold {
     No,
-    Yes,
-    Maybe,
+    Perhaps,
+    Must,
 }
+use Hold::{Must, No, Perhaps};
 
-impl Holds {
+impl Hold {
     fn fits(self, held: bool) -> bool {
         match self {
-            Holds::No => !held,
-            Holds::Yes => held,
-            Holds::Maybe => true,
+            No => !held,
+            Perhaps => true,
+            Must => held,
         }
     }
 }
+
+/// What a stage holds; a deleted handle is held as the old one.
+#[derive(Clone, Copy)]
+struct Holds {
+    chunk: Hold,
+    entry: Hold,
+    old: Hold,
+    new: Hold,
+    published: Hold,
+    swapped: Hold,
+}
+
+const NOTHING: Holds = Holds {
+    chunk: No,
+    entry: No,
+    old: No,
+    new: No,
+    published: No,
+    swapped: No,
+};
+const CHUNK: Holds = Holds { chunk: Must, ..NOTHING };
+const ENTRY: Holds = Holds { entry: Must, ..CHUNK };
+const PERHAPS_OLD: Holds = Holds { old: Perhaps, ..ENTRY };
+const NEW: Holds = Holds { new: Must, ..PERHAPS_OLD };
+const NEW_PUBLISHED: Holds = Holds { published: Must, ..NEW };
+const NEW_OUTCOME: Holds = Holds {
+    swapped: Perhaps,
+    ..NEW_PUBLISHED
+};
+const OLD: Holds = Holds { old: Must, ..ENTRY };
+const OLD_PUBLISHED: Holds = Holds { published: Must, ..OLD };
+const OLD_OUTCOME: Holds = Holds {
+    swapped: Perhaps,
+    ..OLD_PUBLISHED
+};
+const DELETED: Holds = Holds { old: Must, ..NOTHING };
+const DELETED_CHUNK: Holds = Holds { chunk: Must, ..DELETED };
 
 impl Stage {
-    /// Chunk, entry, old (or deleted) handle, new handle, published, swapped.
-    fn holds(self) -> [Holds; 6] {
-        use Holds::*;
-        use Stage::*;
+    /// What the stage list says that the stage holds.
+    fn holds(self) -> Holds {
         match self {
-            Locate | Scan => [No, No, No, No, No, No],
-            Find | TakeEntry => [Yes, No, No, No, No, No],
-            Read | Link => [Yes, Yes, No, No, No, No],
-            Check | Apply | PublishAbsence | ReadAgain | PublishRemoval => [Yes, Yes, Yes, No, No, No],
-            TakeHandle => [Yes, Yes, Maybe, No, No, No],
-            Write | Publish => [Yes, Yes, Maybe, Yes, No, No],
-            Swap => [Yes, Yes, Maybe, Yes, Yes, No],
-            Unpublish => [Yes, Yes, Maybe, Yes, Yes, Maybe],
-            SwapAbsence | SwapRemoval | UnpublishRemoval => [Yes, Yes, Yes, No, Yes, No],
-            UnpublishAbsence => [Yes, Yes, Yes, No, Yes, Maybe],
-            LocateAgain => [No, No, Yes, No, No, No],
-            FindAgain => [Yes, No, Yes, No, No, No],
+            Stage::Locate | Stage::Scan => NOTHING,
+            Stage::Find | Stage::TakeEntry => CHUNK,
+            Stage::Read | Stage::Link => ENTRY,
+            Stage::Check | Stage::Apply | Stage::PublishAbsence => OLD,
+            Stage::TakeHandle => PERHAPS_OLD,
+            Stage::Write | Stage::Publish => NEW,
+            Stage::Swap => NEW_PUBLISHED,
+            Stage::Unpublish => NEW_OUTCOME,
+            Stage::SwapAbsence => OLD_PUBLISHED,
+            Stage::UnpublishAbsence => OLD_OUTCOME,
+            Stage::LocateAgain => DELETED,
+            Stage::FindAgain => DELETED_CHUNK,
+            Stage::ReadAgain | Stage::PublishRemoval => OLD,
+            Stage::SwapRemoval | Stage::UnpublishRemoval => OLD_PUBLISHED,
         }
     }
 
+    /// The stage is one of the operation's.
     fn fits(self, operation: Operation) -> bool {
-        use Operation::*;
-        let n = self.number();
+        let number = self.number();
         match operation {
-            Get => (1..=4).contains(&n),
-            PutIfAbsent => (1..=4).contains(&n) || (6..=12).contains(&n),
-            Put | Upsert => (1..=12).contains(&n),
-            Compute => (1..=5).contains(&n) || (13..=15).contains(&n),
-            Remove => (1..=5).contains(&n) || (13..=21).contains(&n),
-            Scan => n == 22,
+            Operation::Get => matches!(number, 1..=4),
+            Operation::PutIfAbsent => matches!(number, 1..=4 | 6..=12),
+            Operation::Put | Operation::Upsert => matches!(number, 1..=12),
+            Operation::Compute => matches!(number, 1..=5 | 13..=15),
+            Operation::Remove => matches!(number, 1..=5 | 13..=21),
+            Operation::Scan => number == 22,
         }
     }
 }
 
-impl Tables {
-    pub fn shape(&self) -> bool {
-        self.chunks.iter().all(Chunk::shape) && self.chain_shape() && self.rebalance_shape() && self.tasks.iter().flatten().all(|t| self.task_shape(t))
+impl Task {
+    /// The task holds what its stage does, no less and no more.
+    fn holds_fit(&self) -> bool {
+        let holds = self.stage.holds();
+        holds.chunk.fits(self.chunk.is_some())
+            && holds.entry.fits(self.entry.is_some())
+            && holds.old.fits(self.old.is_some())
+            && holds.new.fits(self.new.is_some())
+            && holds.published.fits(self.published)
+            && holds.swapped.fits(self.swapped)
     }
 
-    /// The chain holds every live chunk and no other, from key 0, minimum keys strictly ascending.
-    fn chain_shape(&self) -> bool {
-        if self.chunks[self.first].min != 0 {
-            return false;
-        }
-        let (mut at, mut count) = (self.first, 0);
-        loop {
-            let c = &self.chunks[at];
-            if c.status != Status::Live {
-                return false;
-            }
-            count += 1;
-            match c.next {
-                Some(next) if self.chunks[next].min > c.min => at = next,
-                Some(_) => return false,
-                None => break,
-            }
-        }
-        count == self.chunks.iter().filter(|c| c.status == Status::Live).count()
+    /// The stage fits the operation, and the function is one where one is used.
+    fn asks_fit(&self) -> bool {
+        let function_fits = !self.operation.uses_function() || Function::from_number(self.function).is_some();
+        self.stage.fits(self.operation) && function_fits
     }
+}
 
-    /// The rebalance's chunks fit its stage, and no other chunk is frozen, new or retired.
-    fn rebalance_shape(&self) -> bool {
-        let is = |c: ChunkNo, status, frozen| self.chunks[c].status == status && self.chunks[c].frozen == frozen;
-        let (old, new, second, fits) = match self.rebalance {
-            Rebalance::Idle => (None, None, None, true),
-            Rebalance::Drain(old) | Rebalance::Copy(old) => (Some(old), None, None, is(old, Status::Live, true) && self.unused().take(2).count() == 2),
-            Rebalance::SwapIn(old, new, second) => {
-                let news = is(new, Status::New, false) && second.map_or(true, |s| is(s, Status::New, false));
-                (Some(old), Some(new), second, is(old, Status::Live, true) && news)
-            }
-            Rebalance::Release(old, new, second) => {
-                let news = is(new, Status::Live, false) && second.map_or(true, |s| is(s, Status::Live, false));
-                (Some(old), Some(new), second, is(old, Status::Retired, true) && news)
-            }
-        };
-        let apart = new.is_none() || new != second;
-        let others = (0..CHUNKS).all(|c| {
-            let x = &self.chunks[c];
-            let named = Some(c) == old || Some(c) == new || Some(c) == second;
-            named || !x.frozen && !matches!(x.status, Status::New | Status::Retired)
-        });
-        fits && apart && others
-    }
-
-    fn task_shape(&self, t: &Task) -> bool {
-        let held = [t.chunk.is_some(), t.entry.is_some(), t.old.is_some(), t.new.is_some(), t.published, t.swapped];
-        if !t.stage.holds().iter().zip(held).all(|(h, is)| h.fits(is)) || !t.stage.fits(t.operation) {
-            return false;
-        }
-        if t.operation.uses_function() && Function::of(t.function).is_none() {
-            return false;
-        }
-        let Some(c) = t.chunk else { return true };
-        let c = &self.chunks[c];
-        if c.status == Status::Unused {
-            return false;
-        }
-        let Some(e) = t.entry else { return true };
-        e < c.used && c.entries[e].key == t.key && (t.stage == Stage::Link || c.linked().any(|(n, _)| n == e))
-    }
+/// The number is none or lies in a table of that many.
+fn lies(number: Option<usize>, table: usize) -> bool {
+    number.is_none_or(|number| number < table)
 }
 
 impl Entry {
-    fn is_empty(&self) -> bool {
+    /// The slot holds only 0 and none.
+    fn is_clear(&self) -> bool {
         self.key == 0 && self.handle.is_none() && self.next.is_none()
+    }
+
+    /// The slot's numbers lie in their tables.
+    fn lies(&self) -> bool {
+        lies(self.handle, HANDLES) && lies(self.next, ENTRIES)
     }
 }
 
 impl Chunk {
-    fn shape(&self) -> bool {
-        if self.status == Status::Unused && (self.frozen || self.min != 0 || self.next.is_some() || self.head.is_some() || self.used != 0) {
-            return false;
-        }
-        self.entries[self.used..].iter().all(Entry::is_empty) && self.list_shape()
+    /// The chunk's own words, its slots left aside, hold only 0 and none.
+    fn is_clear(&self) -> bool {
+        !self.frozen && self.min == 0 && self.next.is_none() && self.head.is_none() && self.used == 0
     }
 
-    /// The list is of used entries, keys strictly ascending, so that it ends.
-    fn list_shape(&self) -> bool {
-        let (mut at, mut last) = (self.head, None);
-        while let Some(n) = at {
-            let key = self.entries[n].key;
-            if n >= self.used || last.is_some_and(|last| key <= last) {
+    /// The chunk's numbers lie in their tables, and what is unused is clear.
+    fn slots_fit(&self) -> bool {
+        let Some((used, unused)) = self.entries.split_at_checked(self.used) else {
+            return false;
+        };
+        (self.status != Status::Unused || self.is_clear()) && lies(self.next, CHUNKS) && used.iter().all(Entry::lies) && unused.iter().all(Entry::is_clear)
+    }
+
+    /// The slots that the list links, as bits; none where a linked entry is unused or the keys do not ascend strictly.
+    fn linked_bits(&self) -> Option<u32> {
+        let used = self.entries.get(..self.used)?;
+        let (mut bits, mut last, mut at) = (0, None, self.head);
+        while let Some(number) = at {
+            let entry = used.get(number)?;
+            if last >= Some(entry.key) {
+                return None;
+            }
+            bits |= 1 << number;
+            (last, at) = (Some(entry.key), entry.next);
+        }
+        Some(bits)
+    }
+}
+
+/// The old chunk and the new ones that a rebalance names, with the status that its stage asks of each.
+type Named = [Option<(ChunkNo, Status)>; 3];
+
+impl Rebalance {
+    fn named(self) -> Named {
+        let with = |number, status| Some((number, status));
+        match self {
+            Rebalance::Idle => [None; 3],
+            Rebalance::Drain(old) | Rebalance::Copy(old) => [with(old, Status::Live), None, None],
+            Rebalance::SwapIn(old, new, second) => [with(old, Status::Live), with(new, Status::New), second.map(|second| (second, Status::New))],
+            Rebalance::Release(old, new, second) => [with(old, Status::Retired), with(new, Status::Live), second.map(|second| (second, Status::Live))],
+        }
+    }
+
+    /// The two new chunks are not one (docs/DECISIONS.md, "May the second new chunk repeat the first").
+    fn news_differ(self) -> bool {
+        match self {
+            Rebalance::SwapIn(_, new, second) | Rebalance::Release(_, new, second) => second != Some(new),
+            _ => true,
+        }
+    }
+
+    /// Before copy two chunks must be unused.
+    fn is_before_copy(self) -> bool {
+        matches!(self, Rebalance::Drain(_) | Rebalance::Copy(_))
+    }
+}
+
+/// Only the old chunk is frozen, and only named chunks are new or retired.
+fn marks_fit(named: &Named, number: ChunkNo, chunk: &Chunk) -> bool {
+    let is_old = named[0].is_some_and(|(old, _)| old == number);
+    let is_named = named.iter().flatten().any(|(named, _)| *named == number);
+    chunk.frozen == is_old && (is_named || matches!(chunk.status, Status::Unused | Status::Live))
+}
+
+impl Tables {
+    /// The tables have the shape.
+    pub fn has_shape(&self) -> bool {
+        let Some(linked) = self.linked_bits() else { return false };
+        self.chain_fits() && self.rebalance_fits() && self.tasks.iter().flatten().all(|task| self.task_fits(task, &linked))
+    }
+
+    /// The linked slots of each chunk; none where a chunk by itself fails the shape.
+    fn linked_bits(&self) -> Option<[u32; CHUNKS]> {
+        let mut linked = [0; CHUNKS];
+        for (chunk, bits) in self.chunks.iter().zip(&mut linked) {
+            if !chunk.slots_fit() {
+                return None;
+            }
+            *bits = chunk.linked_bits()?;
+        }
+        Some(linked)
+    }
+
+    /// The chain holds every live chunk and no other, from key 0, minimum keys strictly ascending.
+    fn chain_fits(&self) -> bool {
+        let (mut count, mut last, mut at) = (0, None, Some(self.first));
+        while let Some(number) = at {
+            let Some(chunk) = self.chunks.get(number) else { return false };
+            let ascends = last.map_or(chunk.min == 0, |last| last < chunk.min);
+            if chunk.status != Status::Live || !ascends {
                 return false;
             }
-            last = Some(key);
-            at = self.entries[n].next;
+            count += 1;
+            (last, at) = (Some(chunk.min), chunk.next);
         }
-        true
+        count == self.count(Status::Live)
+    }
+
+    /// How many chunks have the status.
+    pub(crate) fn count(&self, status: Status) -> usize {
+        self.chunks.iter().filter(|chunk| chunk.status == status).count()
+    }
+
+    /// The rebalancer's chunks fit its stage, and no other is frozen, new or retired.
+    fn rebalance_fits(&self) -> bool {
+        let named = self.rebalance.named();
+        let has_status = |(number, status): &(ChunkNo, Status)| self.chunks.get(*number).is_some_and(|chunk| chunk.status == *status);
+        self.rebalance.news_differ()
+            && named.iter().flatten().all(has_status)
+            && self.chunks.iter().enumerate().all(|(number, chunk)| marks_fit(&named, number, chunk))
+            && (!self.rebalance.is_before_copy() || self.count(Status::Unused) >= 2)
+    }
+
+    /// A task at work holds what its stage does, and what it holds is there.
+    fn task_fits(&self, task: &Task, linked: &[u32; CHUNKS]) -> bool {
+        task.holds_fit() && task.asks_fit() && self.held_place_fits(task, linked) && lies(task.old, HANDLES) && lies(task.new, HANDLES)
+    }
+
+    /// A held chunk is in use; a held entry is used, has the task's key, and is linked except at 7.
+    fn held_place_fits(&self, task: &Task, linked: &[u32; CHUNKS]) -> bool {
+        let Some(number) = task.chunk else { return task.entry.is_none() };
+        let Some(chunk) = self.chunks.get(number).filter(|chunk| chunk.status != Status::Unused) else {
+            return false;
+        };
+        task.entry.is_none_or(|entry| {
+            let used = entry < chunk.used && chunk.entries[entry].key == task.key;
+            used && (task.stage == Stage::Link || linked[number] >> entry & 1 == 1)
+        })
     }
 }

@@ -1,311 +1,312 @@
-//! One step of a task: one stage of the list.
+//! The stages of a task, on tables that have the shape.
 use crate::*;
 
-/// What a stage comes to, for its own task.
-enum Outcome {
-    Goes(Task),
-    Restarts(Restart),
-    Pairs(Task, u64, u64),
-    Finishes(Answer),
+/// What a stage did to its task; the call writes the task's record.
+pub(crate) enum Outcome {
+    MovedOn(Task),
+    Pair(Task, u64, u64),
+    Restarted(Restart),
+    Finished(Answer),
+    /// Stage 8 found no free handle.
     NoHandle,
+    /// The task lacks what its stage holds, which the shape shuts out.
+    NoShape,
 }
+use Outcome::{Finished, MovedOn, Restarted};
 
-use Outcome::*;
-
-/// How finding the key gone is answered.
-fn absent(t: &Task) -> Outcome {
-    Finishes(if t.operation == Operation::Get { Answer::Absent } else { Answer::False })
-}
-
-impl Tables {
-    pub(crate) fn does_stage(&mut self, n: usize, t: Task) -> Report {
-        let (after, report) = match self.stage(t) {
-            Goes(t) => (Some(t), Report::MovedOn),
-            Pairs(t, k, v) => (Some(t), Report::Pair(k, v)),
-            Restarts(why) => (Some(Task::at_start(t.operation, t.function, t.key, t.argument)), Report::Restarted(why)),
-            Finishes(answer) => (None, Report::Finished(answer)),
-            NoHandle => (None, Report::Refused(9)),
-        };
-        self.tasks[n] = after;
-        report
+impl Task {
+    /// The record at another stage, holding the same.
+    fn at(self, stage: Stage) -> Outcome {
+        MovedOn(Task { stage, ..self })
     }
 
-    fn stage(&mut self, t: Task) -> Outcome {
-        match t.stage {
-            Stage::Locate => Goes(Task {
-                stage: Stage::Find,
-                chunk: Some(self.locate(t.key)),
-                ..t
-            }),
-            Stage::Find => match self.held_chunk(&t).find(t.key) {
-                Some(e) => Goes(Task {
-                    stage: Stage::Read,
-                    entry: Some(e),
-                    ..t
-                }),
-                None if t.operation.inserts() => Goes(Task { stage: Stage::TakeEntry, ..t }),
-                None => absent(&t),
-            },
-            Stage::Read => match self.held_entry(&t).handle {
-                Some(h) => Goes(Task {
-                    stage: Stage::Check,
-                    old: Some(h),
-                    ..t
-                }),
-                None if t.operation.inserts() => Goes(Task { stage: Stage::TakeHandle, ..t }),
-                None => absent(&t),
-            },
-            Stage::Check => self.check(t),
-            Stage::Apply => self.apply(t),
-            Stage::TakeEntry => self.take_entry(t),
-            Stage::Link => self.link(t),
-            Stage::TakeHandle => match self.lowest_free() {
-                None => NoHandle,
-                Some(h) => {
-                    self.handles[h] = Handle { value: 0, deleted: false };
-                    Goes(Task {
-                        stage: Stage::Write,
-                        new: Some(h),
-                        ..t
-                    })
-                }
-            },
-            Stage::Write => {
-                self.handles[t.new.unwrap()].value = t.argument;
-                Goes(Task { stage: Stage::Publish, ..t })
-            }
-            Stage::Publish => self.publish(t, Stage::Swap),
-            Stage::PublishAbsence => self.publish(t, Stage::SwapAbsence),
-            Stage::PublishRemoval => {
-                if self.held_chunk(&t).frozen {
-                    Goes(Task {
-                        stage: Stage::LocateAgain,
-                        chunk: None,
-                        entry: None,
-                        ..t
-                    })
-                } else {
-                    self.publish(t, Stage::SwapRemoval)
-                }
-            }
-            Stage::Swap => {
-                let swapped = self.swap(&t, t.new);
-                Goes(Task {
-                    stage: Stage::Unpublish,
-                    swapped,
-                    ..t
-                })
-            }
-            Stage::SwapAbsence => {
-                let swapped = self.swap(&t, None);
-                Goes(Task {
-                    stage: Stage::UnpublishAbsence,
-                    swapped,
-                    ..t
-                })
-            }
-            Stage::SwapRemoval => {
-                self.swap(&t, None);
-                Goes(Task {
-                    stage: Stage::UnpublishRemoval,
-                    ..t
-                })
-            }
-            Stage::Unpublish if !t.swapped => Restarts(Restart::Lost),
-            Stage::Unpublish => Finishes(if t.operation == Operation::PutIfAbsent { Answer::True } else { Answer::Done }),
-            Stage::UnpublishAbsence if !t.swapped => Restarts(Restart::Lost),
-            Stage::UnpublishAbsence => absent(&t),
-            Stage::LocateAgain => Goes(Task {
-                stage: Stage::FindAgain,
-                chunk: Some(self.locate(t.key)),
-                ..t
-            }),
-            Stage::FindAgain => match self.held_chunk(&t).find(t.key) {
-                Some(e) => Goes(Task {
-                    stage: Stage::ReadAgain,
-                    entry: Some(e),
-                    ..t
-                }),
-                None => Finishes(Answer::True),
-            },
-            Stage::ReadAgain => {
-                if self.held_entry(&t).handle == t.old {
-                    Goes(Task {
-                        stage: Stage::PublishRemoval,
-                        ..t
-                    })
-                } else {
-                    Finishes(Answer::True)
-                }
-            }
-            Stage::UnpublishRemoval => Finishes(Answer::True),
-            Stage::Scan => self.scan(t),
-        }
+    /// The key is absent to a get, a compute or a remove.
+    fn finish_absent(self) -> Outcome {
+        Finished(if self.operation == Operation::Get { Answer::Absent } else { Answer::False })
     }
 
-    fn held_chunk(&self, t: &Task) -> &Chunk {
-        &self.chunks[t.chunk.unwrap()]
-    }
-
-    fn held_entry(&self, t: &Task) -> &Entry {
-        &self.held_chunk(t).entries[t.entry.unwrap()]
-    }
-
-    fn check(&self, t: Task) -> Outcome {
-        let h = self.handles[t.old.unwrap()];
-        match (h.deleted, t.operation) {
-            (true, Operation::Get) => Finishes(Answer::Absent),
-            (true, Operation::Compute | Operation::Remove) => Goes(Task {
-                stage: Stage::PublishAbsence,
-                ..t
-            }),
-            (true, _) => Goes(Task { stage: Stage::TakeHandle, ..t }),
-            (false, Operation::Get) => Finishes(Answer::Value(h.value)),
-            (false, Operation::PutIfAbsent) => Finishes(Answer::False),
-            (false, _) => Goes(Task { stage: Stage::Apply, ..t }),
-        }
-    }
-
-    fn apply(&mut self, t: Task) -> Outcome {
-        let h = &mut self.handles[t.old.unwrap()];
-        if h.deleted {
-            return match t.operation {
-                Operation::Put | Operation::Upsert => Restarts(Restart::Lost),
-                _ => Goes(Task {
-                    stage: Stage::PublishAbsence,
-                    ..t
-                }),
-            };
-        }
-        match t.operation {
-            Operation::Put => {
-                h.value = t.argument;
-                Finishes(Answer::Done)
-            }
-            Operation::Remove => {
-                h.deleted = true;
-                Goes(Task {
-                    stage: Stage::LocateAgain,
-                    chunk: None,
-                    entry: None,
-                    ..t
-                })
-            }
-            _ => {
-                h.value = Function::of(t.function).unwrap().applied(h.value, t.argument);
-                Finishes(if t.operation == Operation::Upsert { Answer::Done } else { Answer::True })
-            }
-        }
-    }
-
-    fn take_entry(&mut self, t: Task) -> Outcome {
-        let c = &mut self.chunks[t.chunk.unwrap()];
-        if c.frozen {
-            return Restarts(Restart::Frozen);
-        }
-        if c.used == ENTRIES {
-            return Restarts(Restart::Full);
-        }
-        let e = c.used;
-        c.used += 1;
-        c.entries[e] = Entry {
-            key: t.key,
-            handle: None,
-            next: None,
-        };
-        Goes(Task {
-            stage: Stage::Link,
-            entry: Some(e),
-            ..t
+    /// The change is made.
+    fn finish_changed(self) -> Outcome {
+        Finished(match self.operation {
+            Operation::Put | Operation::Upsert => Answer::Done,
+            _ => Answer::True,
         })
     }
 
-    fn link(&mut self, t: Task) -> Outcome {
-        let c = &mut self.chunks[t.chunk.unwrap()];
-        if c.frozen {
-            return Restarts(Restart::Frozen);
-        }
-        if let Some(e) = c.find(t.key) {
-            return Goes(Task {
-                stage: Stage::TakeHandle,
-                entry: Some(e),
-                ..t
-            });
-        }
-        let before = c.linked().take_while(|(_, e)| e.key < t.key).last().map(|(n, _)| n);
-        let e = t.entry.unwrap();
-        match before {
-            None => {
-                c.entries[e].next = c.head;
-                c.head = Some(e);
-            }
-            Some(b) => {
-                c.entries[e].next = c.entries[b].next;
-                c.entries[b].next = Some(e);
-            }
-        }
-        Goes(Task { stage: Stage::TakeHandle, ..t })
-    }
-
-    fn publish(&self, t: Task, on: Stage) -> Outcome {
-        if self.held_chunk(&t).frozen {
-            Restarts(Restart::Frozen)
-        } else {
-            Goes(Task {
-                stage: on,
-                published: true,
-                ..t
-            })
+    /// No handle is named under the key: insertions go to the stage, the others finish absent.
+    fn absent_or(self, stage: Stage) -> Outcome {
+        match self.operation {
+            Operation::Put | Operation::PutIfAbsent | Operation::Upsert => self.at(stage),
+            _ => self.finish_absent(),
         }
     }
 
-    /// Where the entry still names the old handle, or none, it now names the other.
-    fn swap(&mut self, t: &Task, other: Option<HandleNo>) -> bool {
-        let e = &mut self.chunks[t.chunk.unwrap()].entries[t.entry.unwrap()];
-        let still = e.handle == t.old;
-        if still {
-            e.handle = other;
-        }
-        still
+    /// A removal has only its deleted handle and looks for the key's chunk again.
+    fn locate_again(self) -> Outcome {
+        MovedOn(Task {
+            stage: Stage::LocateAgain,
+            chunk: None,
+            entry: None,
+            ..self
+        })
     }
+}
 
-    fn scan(&self, t: Task) -> Outcome {
-        if t.key >= t.argument {
-            return Finishes(Answer::Done);
-        }
-        let c = &self.chunks[self.locate(t.key)];
-        for (_, e) in c.linked() {
-            if let Some(h) = e.handle {
-                if e.key >= t.key && e.key < t.argument && !self.handles[h].deleted {
-                    return Pairs(Task { key: e.key + 1, ..t }, e.key, self.handles[h].value);
-                }
-            }
-        }
-        match c.next {
-            Some(next) => Goes(Task {
-                key: self.chunks[next].min,
-                ..t
+impl Tables {
+    /// The task does its stage; everything but the task's own record is changed here.
+    pub(crate) fn do_stage(&mut self, task: Task) -> Outcome {
+        match (task.stage, task.chunk, task.entry) {
+            (Stage::Locate, _, _) => MovedOn(Task {
+                stage: Stage::Find,
+                chunk: Some(self.locate(task.key)),
+                ..task
             }),
-            None => Finishes(Answer::Done),
+            (Stage::LocateAgain, _, _) => MovedOn(Task {
+                stage: Stage::FindAgain,
+                chunk: Some(self.locate(task.key)),
+                ..task
+            }),
+            (Stage::Scan, _, _) => self.scan(task),
+            (Stage::Find, Some(chunk), _) => self.find(task, chunk),
+            (Stage::FindAgain, Some(chunk), _) => self.find_again(task, chunk),
+            (Stage::TakeEntry, Some(chunk), _) => self.take_entry(task, chunk),
+            (_, Some(chunk), Some(entry)) => self.do_entry_stage(task, chunk, entry),
+            _ => Outcome::NoShape,
+        }
+    }
+
+    /// The stages that hold a chunk and an entry.
+    fn do_entry_stage(&mut self, task: Task, chunk: ChunkNo, entry: EntryNo) -> Outcome {
+        match (task.stage, task.old, task.new) {
+            (Stage::Read, _, _) => self.read(task, chunk, entry),
+            (Stage::Check, Some(old), _) => self.check(task, old),
+            (Stage::Apply, Some(old), _) => self.apply(task, old),
+            (Stage::Link, _, _) => self.link(task, chunk, entry),
+            (Stage::TakeHandle, _, _) => self.take_handle(task),
+            (Stage::Write, _, Some(new)) => {
+                self.handles[new].value = task.argument;
+                task.at(Stage::Publish)
+            }
+            (Stage::Publish, _, _) => self.publish(task, chunk, Stage::Swap),
+            (Stage::PublishAbsence, _, _) => self.publish(task, chunk, Stage::SwapAbsence),
+            (Stage::PublishRemoval, _, _) if self.chunks[chunk].frozen => task.locate_again(),
+            (Stage::PublishRemoval, _, _) => self.publish(task, chunk, Stage::SwapRemoval),
+            (Stage::Swap, _, Some(new)) => self.swap(task, chunk, entry, Some(new), Stage::Unpublish),
+            (Stage::SwapAbsence, Some(_), _) => self.swap(task, chunk, entry, None, Stage::UnpublishAbsence),
+            (Stage::SwapRemoval, Some(old), _) => self.swap_removal(task, chunk, entry, old),
+            (Stage::Unpublish | Stage::UnpublishAbsence, _, _) if !task.swapped => Restarted(Restart::Lost),
+            (Stage::Unpublish, _, _) => task.finish_changed(),
+            (Stage::UnpublishAbsence, _, _) => task.finish_absent(),
+            (Stage::ReadAgain, Some(old), _) if self.chunks[chunk].entries[entry].handle == Some(old) => task.at(Stage::PublishRemoval),
+            (Stage::ReadAgain | Stage::UnpublishRemoval, _, _) => Finished(Answer::True),
+            _ => Outcome::NoShape,
+        }
+    }
+
+    /// Stage 2: the linked entry with the key.
+    fn find(&self, task: Task, chunk: ChunkNo) -> Outcome {
+        match self.chunks[chunk].find(task.key) {
+            Some(entry) => MovedOn(Task {
+                stage: Stage::Read,
+                entry: Some(entry),
+                ..task
+            }),
+            None => task.absent_or(Stage::TakeEntry),
+        }
+    }
+
+    /// Stage 17: the linked entry with the key, after a removal.
+    fn find_again(&self, task: Task, chunk: ChunkNo) -> Outcome {
+        match self.chunks[chunk].find(task.key) {
+            Some(entry) => MovedOn(Task {
+                stage: Stage::ReadAgain,
+                entry: Some(entry),
+                ..task
+            }),
+            None => Finished(Answer::True),
+        }
+    }
+
+    /// Stage 3: the entry's handle.
+    fn read(&self, task: Task, chunk: ChunkNo, entry: EntryNo) -> Outcome {
+        match self.chunks[chunk].entries[entry].handle {
+            Some(handle) => MovedOn(Task {
+                stage: Stage::Check,
+                old: Some(handle),
+                ..task
+            }),
+            None => task.absent_or(Stage::TakeHandle),
+        }
+    }
+
+    /// Stage 4: what the old handle's mark means to the operation.
+    fn check(&self, task: Task, old: HandleNo) -> Outcome {
+        let Handle { value, deleted } = self.handles[old];
+        match task.operation {
+            Operation::Get if deleted => Finished(Answer::Absent),
+            Operation::Get => Finished(Answer::Value(value)),
+            Operation::Compute | Operation::Remove if deleted => task.at(Stage::PublishAbsence),
+            _ if deleted => task.at(Stage::TakeHandle),
+            Operation::PutIfAbsent => Finished(Answer::False),
+            _ => task.at(Stage::Apply),
+        }
+    }
+
+    /// Stage 5: the change of an undeleted handle, in place.
+    fn apply(&mut self, task: Task, old: HandleNo) -> Outcome {
+        let handle = &mut self.handles[old];
+        match (task.operation, Function::from_number(task.function)) {
+            (Operation::Put | Operation::Upsert, _) if handle.deleted => Restarted(Restart::Lost),
+            _ if handle.deleted => task.at(Stage::PublishAbsence),
+            (Operation::Put, _) => {
+                handle.value = task.argument;
+                task.finish_changed()
+            }
+            (Operation::Upsert | Operation::Compute, Some(function)) => {
+                handle.value = function.apply(handle.value, task.argument);
+                task.finish_changed()
+            }
+            (Operation::Remove, _) => {
+                handle.deleted = true;
+                task.locate_again()
+            }
+            _ => Outcome::NoShape,
+        }
+    }
+
+    /// Stage 6: the next unused slot gets the key.
+    fn take_entry(&mut self, task: Task, chunk: ChunkNo) -> Outcome {
+        let chunk = &mut self.chunks[chunk];
+        if chunk.frozen {
+            return Restarted(Restart::Frozen);
+        }
+        let entry = chunk.used;
+        let Some(slot) = chunk.entries.get_mut(entry) else {
+            return Restarted(Restart::Full);
+        };
+        *slot = Entry {
+            key: task.key,
+            handle: None,
+            next: None,
+        };
+        chunk.used += 1;
+        MovedOn(Task {
+            stage: Stage::Link,
+            entry: Some(entry),
+            ..task
+        })
+    }
+
+    /// Stage 7: the entry is linked in order, or the linked one that has the key is held instead.
+    fn link(&mut self, task: Task, chunk: ChunkNo, entry: EntryNo) -> Outcome {
+        let chunk = &mut self.chunks[chunk];
+        if chunk.frozen {
+            return Restarted(Restart::Frozen);
+        }
+        let held = match chunk.find(task.key) {
+            Some(linked) => linked,
+            None => {
+                chunk.link(entry);
+                entry
+            }
+        };
+        MovedOn(Task {
+            stage: Stage::TakeHandle,
+            entry: Some(held),
+            ..task
+        })
+    }
+
+    /// Stage 8: the lowest free handle.
+    fn take_handle(&mut self, task: Task) -> Outcome {
+        let Some(new) = self.lowest_free() else { return Outcome::NoHandle };
+        self.handles[new] = Handle { value: 0, deleted: false };
+        MovedOn(Task {
+            stage: Stage::Write,
+            new: Some(new),
+            ..task
+        })
+    }
+
+    /// The lowest number that no entry of a chunk in use names and no task holds.
+    pub fn lowest_free(&self) -> Option<HandleNo> {
+        let mut taken = [false; HANDLES];
+        let in_use = self.chunks.iter().filter(|chunk| chunk.status != Status::Unused);
+        let named = in_use.flat_map(|chunk| &chunk.entries).filter_map(|entry| entry.handle);
+        let held = self.tasks.iter().flatten().flat_map(|task| [task.old, task.new]).flatten();
+        for handle in named.chain(held) {
+            if let Some(taken) = taken.get_mut(handle) {
+                *taken = true;
+            }
+        }
+        taken.iter().position(|taken| !taken)
+    }
+
+    /// Stages 10, 13 and 19: published, unless the chunk is frozen.
+    fn publish(&self, task: Task, chunk: ChunkNo, then: Stage) -> Outcome {
+        if self.chunks[chunk].frozen {
+            return Restarted(Restart::Frozen);
+        }
+        MovedOn(Task {
+            stage: then,
+            published: true,
+            ..task
+        })
+    }
+
+    /// Stages 11 and 14: the entry names another handle or none if it still names the old, and the outcome is kept.
+    fn swap(&mut self, task: Task, chunk: ChunkNo, entry: EntryNo, to: Option<HandleNo>, then: Stage) -> Outcome {
+        let named = &mut self.chunks[chunk].entries[entry].handle;
+        let swapped = *named == task.old;
+        if swapped {
+            *named = to;
+        }
+        MovedOn(Task { stage: then, swapped, ..task })
+    }
+
+    /// Stage 20: the entry names none if it still names the deleted handle; no later stage asks for the outcome.
+    fn swap_removal(&mut self, task: Task, chunk: ChunkNo, entry: EntryNo, old: HandleNo) -> Outcome {
+        let named = &mut self.chunks[chunk].entries[entry].handle;
+        if *named == Some(old) {
+            *named = None;
+        }
+        task.at(Stage::UnpublishRemoval)
+    }
+
+    /// Stage 22: the first present key in range of the chunk that has the cursor, or on to the next chunk.
+    fn scan(&self, task: Task) -> Outcome {
+        let (cursor, end) = (task.key, task.argument);
+        if cursor >= end {
+            return Finished(Answer::Done);
+        }
+        let chunk = &self.chunks[self.locate(cursor)];
+        let in_range = chunk
+            .linked()
+            .map(|(_, entry)| entry)
+            .skip_while(|entry| entry.key < cursor)
+            .take_while(|entry| entry.key < end);
+        let mut handles = in_range.filter_map(|entry| Some((entry.key, self.handles[entry.handle?])));
+        match (handles.find(|(_, handle)| !handle.deleted), chunk.next) {
+            (Some((key, handle)), _) => Outcome::Pair(Task { key: key + 1, ..task }, key, handle.value),
+            (None, Some(next)) => MovedOn(Task {
+                key: self.chunks[next].min,
+                ..task
+            }),
+            (None, None) => Finished(Answer::Done),
         }
     }
 }
 
-impl Task {
-    /// At its first stage, holding nothing.
-    pub(crate) fn at_start(operation: Operation, function: u64, key: u64, argument: u64) -> Task {
-        Task {
-            stage: if operation == Operation::Scan { Stage::Scan } else { Stage::Locate },
-            operation,
-            function,
-            key,
-            argument,
-            chunk: None,
-            entry: None,
-            old: None,
-            new: None,
-            published: false,
-            swapped: false,
-        }
+impl Chunk {
+    /// Links a slot before the first linked entry of a larger key.
+    fn link(&mut self, entry: EntryNo) {
+        let key = self.entries[entry].key;
+        let before = self.linked().take_while(|(_, linked)| linked.key < key).last().map(|(number, _)| number);
+        let place = match before {
+            Some(before) => &mut self.entries[before].next,
+            None => &mut self.head,
+        };
+        let after = place.replace(entry);
+        self.entries[entry].next = after;
     }
 }

@@ -1,4 +1,4 @@
-//! The tables as words, and back: a number that lies in no table is no table's.
+//! The tables as words, and back.
 use crate::*;
 
 pub const NONE: u64 = u64::MAX;
@@ -7,24 +7,32 @@ pub const LENGTHS: [usize; 6] = [5, TASKS * 11, CHUNKS * 6, CHUNKS * ENTRIES * 3
 
 pub type Words = [Vec<u64>; 6];
 
+/// The row of an idle task.
+const IDLE: [u64; 11] = [0, 0, 0, 0, 0, NONE, NONE, NONE, NONE, 0, 0];
+
 /// Words of the right lengths.
 pub fn blank() -> Words {
     LENGTHS.map(|n| vec![0; n])
 }
 
-fn optional(word: u64, size: usize) -> Option<Option<usize>> {
-    match usize::try_from(word) {
-        _ if word == NONE => Some(None),
-        Ok(n) if n < size => Some(Some(n)),
-        _ => None,
+/// The number of a row of some table; none where no row could have it.
+fn number(word: u64) -> Option<usize> {
+    if word == NONE {
+        return None;
+    }
+    usize::try_from(word).ok()
+}
+
+/// A number or none; the outer none where no row could have it.
+fn number_or_none(word: u64) -> Option<Option<usize>> {
+    match word {
+        NONE => Some(None),
+        word => number(word).map(Some),
     }
 }
 
-fn number(word: u64, size: usize) -> Option<usize> {
-    usize::try_from(word).ok().filter(|&n| n < size)
-}
-
-fn flag(word: u64) -> Option<bool> {
+/// A mark, 0 or 1.
+fn mark(word: u64) -> Option<bool> {
     match word {
         0 => Some(false),
         1 => Some(true),
@@ -32,169 +40,165 @@ fn flag(word: u64) -> Option<bool> {
     }
 }
 
-fn word(n: Option<usize>) -> u64 {
-    n.map_or(NONE, |n| n as u64)
+/// The word of a number or none.
+fn word(number: Option<usize>) -> u64 {
+    number.map_or(NONE, |number| number as u64)
 }
 
-impl Stage {
-    pub const ALL: [Stage; 22] = [
-        Stage::Locate,
-        Stage::Find,
-        Stage::Read,
-        Stage::Check,
-        Stage::Apply,
-        Stage::TakeEntry,
-        Stage::Link,
-        Stage::TakeHandle,
-        Stage::Write,
-        Stage::Publish,
-        Stage::Swap,
-        Stage::Unpublish,
-        Stage::PublishAbsence,
-        Stage::SwapAbsence,
-        Stage::UnpublishAbsence,
-        Stage::LocateAgain,
-        Stage::FindAgain,
-        Stage::ReadAgain,
-        Stage::PublishRemoval,
-        Stage::SwapRemoval,
-        Stage::UnpublishRemoval,
-        Stage::Scan,
-    ];
+/// The words as rows of a fixed length.
+fn rows<const N: usize>(words: &[u64]) -> impl Iterator<Item = [u64; N]> + '_ {
+    words.chunks_exact(N).filter_map(|row| row.try_into().ok())
+}
 
-    /// Its number in the stage list, 1 to 22.
-    pub fn number(self) -> u64 {
-        self as u64 + 1
+/// Writes rows over the words.
+fn write<const N: usize>(words: &mut [u64], rows: impl Iterator<Item = [u64; N]>) {
+    for (words, row) in words.chunks_exact_mut(N).zip(rows) {
+        words.copy_from_slice(&row);
+    }
+}
+
+impl Rebalance {
+    fn from_words([stage, old, new, second]: [u64; 4]) -> Option<Rebalance> {
+        let none_new = new == NONE && second == NONE;
+        match stage {
+            0 if none_new && old == NONE => Some(Rebalance::Idle),
+            1 if none_new => Some(Rebalance::Drain(number(old)?)),
+            2 if none_new => Some(Rebalance::Copy(number(old)?)),
+            3 => Some(Rebalance::SwapIn(number(old)?, number(new)?, number_or_none(second)?)),
+            4 => Some(Rebalance::Release(number(old)?, number(new)?, number_or_none(second)?)),
+            _ => None,
+        }
+    }
+
+    fn to_words(self) -> [u64; 4] {
+        match self {
+            Rebalance::Idle => [0, NONE, NONE, NONE],
+            Rebalance::Drain(old) => [1, old as u64, NONE, NONE],
+            Rebalance::Copy(old) => [2, old as u64, NONE, NONE],
+            Rebalance::SwapIn(old, new, second) => [3, old as u64, new as u64, word(second)],
+            Rebalance::Release(old, new, second) => [4, old as u64, new as u64, word(second)],
+        }
+    }
+}
+
+impl Task {
+    /// The task of a row: the inner none where it is idle, the outer where no task has the row.
+    fn from_words(row: [u64; 11]) -> Option<Option<Task>> {
+        if row == IDLE {
+            return Some(None);
+        }
+        let [stage, operation, function, key, argument, chunk, entry, old, new, published, swapped] = row;
+        Some(Some(Task {
+            stage: Stage::from_number(stage)?,
+            operation: Operation::from_number(operation)?,
+            function,
+            key,
+            argument,
+            chunk: number_or_none(chunk)?,
+            entry: number_or_none(entry)?,
+            old: number_or_none(old)?,
+            new: number_or_none(new)?,
+            published: mark(published)?,
+            swapped: mark(swapped)?,
+        }))
+    }
+
+    fn to_words(self) -> [u64; 11] {
+        let [chunk, entry, old, new] = [self.chunk, self.entry, self.old, self.new].map(word);
+        let (stage, operation) = (self.stage.number(), self.operation.number());
+        [
+            stage,
+            operation,
+            self.function,
+            self.key,
+            self.argument,
+            chunk,
+            entry,
+            old,
+            new,
+            self.published as u64,
+            self.swapped as u64,
+        ]
+    }
+}
+
+impl Chunk {
+    /// The chunk of its row, its entries still clear.
+    fn from_words([status, frozen, min, next, head, used]: [u64; 6]) -> Option<Chunk> {
+        Some(Chunk {
+            status: Status::from_number(status)?,
+            frozen: mark(frozen)?,
+            min,
+            next: number_or_none(next)?,
+            head: number_or_none(head)?,
+            used: usize::try_from(used).ok()?,
+            ..Chunk::default()
+        })
+    }
+
+    fn to_words(self) -> [u64; 6] {
+        [
+            self.status as u64,
+            self.frozen as u64,
+            self.min,
+            word(self.next),
+            word(self.head),
+            self.used as u64,
+        ]
+    }
+}
+
+impl Entry {
+    fn from_words([key, handle, next]: [u64; 3]) -> Option<Entry> {
+        Some(Entry {
+            key,
+            handle: number_or_none(handle)?,
+            next: number_or_none(next)?,
+        })
     }
 }
 
 impl Tables {
-    /// The tables of the words, where every length and number is one of theirs.
+    /// The tables of the words; none where a length or a number is such that the call is refused by 10 whatever else the tables hold, since these structs cannot hold it.
     pub fn from_words(w: &Words) -> Option<Tables> {
-        if w.iter().zip(LENGTHS).any(|(t, n)| t.len() != n) {
+        if w.each_ref().map(Vec::len) != LENGTHS {
             return None;
         }
         let [directory, tasks, chunks, entries, values, marks] = w;
-        let mut t = Tables::fresh();
-        t.first = number(directory[0], CHUNKS)?;
-        t.rebalance = rebalance(directory)?;
-        for (n, row) in tasks.chunks(11).enumerate() {
-            t.tasks[n] = task(row)?;
+        let [first, stage, old, new, second] = <[u64; 5]>::try_from(directory.as_slice()).ok()?;
+        let mut tables = Tables {
+            first: number(first)?,
+            rebalance: Rebalance::from_words([stage, old, new, second])?,
+            ..Tables::fresh()
+        };
+        for (task, row) in tables.tasks.iter_mut().zip(rows(tasks)) {
+            *task = Task::from_words(row)?;
         }
-        for (n, row) in chunks.chunks(6).enumerate() {
-            t.chunks[n] = chunk(row, &entries[n * ENTRIES * 3..(n + 1) * ENTRIES * 3])?;
+        for (chunk, row) in tables.chunks.iter_mut().zip(rows(chunks)) {
+            *chunk = Chunk::from_words(row)?;
         }
-        for h in 0..HANDLES {
-            t.handles[h] = Handle {
-                value: values[h],
-                deleted: flag(marks[h])?,
+        for (entry, row) in tables.chunks.iter_mut().flat_map(|chunk| &mut chunk.entries).zip(rows(entries)) {
+            *entry = Entry::from_words(row)?;
+        }
+        for (handle, (&value, &deleted)) in tables.handles.iter_mut().zip(values.iter().zip(marks)) {
+            *handle = Handle {
+                value,
+                deleted: mark(deleted)?,
             };
         }
-        Some(t)
+        Some(tables)
     }
 
     /// The words of the tables, written over words of the right lengths.
     pub fn to_words(&self, w: &mut Words) {
         let [directory, tasks, chunks, entries, values, marks] = w;
-        let (stage, old, new, second) = match self.rebalance {
-            Rebalance::Idle => (0, None, None, None),
-            Rebalance::Drain(old) => (1, Some(old), None, None),
-            Rebalance::Copy(old) => (2, Some(old), None, None),
-            Rebalance::SwapIn(old, new, second) => (3, Some(old), Some(new), second),
-            Rebalance::Release(old, new, second) => (4, Some(old), Some(new), second),
-        };
-        directory.copy_from_slice(&[self.first as u64, stage, word(old), word(new), word(second)]);
-        for (row, t) in tasks.chunks_mut(11).zip(&self.tasks) {
-            row.copy_from_slice(&task_row(t));
-        }
-        for (n, c) in self.chunks.iter().enumerate() {
-            chunks[n * 6..n * 6 + 6].copy_from_slice(&[c.status as u64, c.frozen as u64, c.min, word(c.next), word(c.head), c.used as u64]);
-            for (e, x) in c.entries.iter().enumerate() {
-                let at = (n * ENTRIES + e) * 3;
-                entries[at..at + 3].copy_from_slice(&[x.key, word(x.handle), word(x.next)]);
-            }
-        }
-        for (h, x) in self.handles.iter().enumerate() {
-            values[h] = x.value;
-            marks[h] = x.deleted as u64;
-        }
+        let [stage, old, new, second] = self.rebalance.to_words();
+        write(directory, std::iter::once([self.first as u64, stage, old, new, second]));
+        write(tasks, self.tasks.iter().map(|task| task.map_or(IDLE, Task::to_words)));
+        write(chunks, self.chunks.iter().map(|chunk| chunk.to_words()));
+        let slots = self.chunks.iter().flat_map(|chunk| &chunk.entries);
+        write(entries, slots.map(|entry| [entry.key, word(entry.handle), word(entry.next)]));
+        write(values, self.handles.iter().map(|handle| [handle.value]));
+        write(marks, self.handles.iter().map(|handle| [handle.deleted as u64]));
     }
-}
-
-fn rebalance(row: &[u64]) -> Option<Rebalance> {
-    let (old, new, second) = (optional(row[2], CHUNKS)?, optional(row[3], CHUNKS)?, optional(row[4], CHUNKS)?);
-    match (row[1], old, new, second) {
-        (0, None, None, None) => Some(Rebalance::Idle),
-        (1, Some(old), None, None) => Some(Rebalance::Drain(old)),
-        (2, Some(old), None, None) => Some(Rebalance::Copy(old)),
-        (3, Some(old), Some(new), second) => Some(Rebalance::SwapIn(old, new, second)),
-        (4, Some(old), Some(new), second) => Some(Rebalance::Release(old, new, second)),
-        _ => None,
-    }
-}
-
-/// None where the row is no task's, an idle one or one at work.
-fn task(row: &[u64]) -> Option<Option<Task>> {
-    if row[0] == 0 {
-        return (row == task_row(&None)).then_some(None);
-    }
-    Some(Some(Task {
-        stage: *Stage::ALL.get(number(row[0] - 1, Stage::ALL.len())?)?,
-        operation: Operation::of(row[1])?,
-        function: row[2],
-        key: row[3],
-        argument: row[4],
-        chunk: optional(row[5], CHUNKS)?,
-        entry: optional(row[6], ENTRIES)?,
-        old: optional(row[7], HANDLES)?,
-        new: optional(row[8], HANDLES)?,
-        published: flag(row[9])?,
-        swapped: flag(row[10])?,
-    }))
-}
-
-fn task_row(t: &Option<Task>) -> [u64; 11] {
-    match t {
-        None => [0, 0, 0, 0, 0, NONE, NONE, NONE, NONE, 0, 0],
-        Some(t) => [
-            t.stage.number(),
-            t.operation as u64 + 1,
-            t.function,
-            t.key,
-            t.argument,
-            word(t.chunk),
-            word(t.entry),
-            word(t.old),
-            word(t.new),
-            t.published as u64,
-            t.swapped as u64,
-        ],
-    }
-}
-
-fn chunk(row: &[u64], slots: &[u64]) -> Option<Chunk> {
-    let status = match row[0] {
-        0 => Status::Unused,
-        1 => Status::Live,
-        2 => Status::New,
-        3 => Status::Retired,
-        _ => return None,
-    };
-    let mut c = Chunk {
-        status,
-        frozen: flag(row[1])?,
-        min: row[2],
-        next: optional(row[3], CHUNKS)?,
-        head: optional(row[4], ENTRIES)?,
-        used: number(row[5], ENTRIES + 1)?,
-        entries: [Entry::default(); ENTRIES],
-    };
-    for (e, x) in slots.chunks(3).enumerate() {
-        c.entries[e] = Entry {
-            key: x[0],
-            handle: optional(x[1], HANDLES)?,
-            next: optional(x[2], ENTRIES)?,
-        };
-    }
-    Some(c)
 }

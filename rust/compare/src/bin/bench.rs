@@ -273,7 +273,7 @@ fn main() {
     let [hundred, longest] = [&all[0].1[0], &all[1].1[0]].map(|c| {
         median(
             (0..RUNS)
-                .map(|_| timed(100, || (), || assert!(black_box(Tables::from_words(&c.words)).is_some_and(|t| t.shape()))))
+                .map(|_| timed(100, || (), || assert!(black_box(Tables::from_words(&c.words)).is_some_and(|t| t.has_shape()))))
                 .collect(),
         )
     });
