@@ -1,4 +1,3 @@
-pub mod Filling
 pub mod Held
 pub mod Laws
 pub mod Unique

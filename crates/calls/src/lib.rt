@@ -1,13 +1,9 @@
 // The calls over lent tables of any sizes: the slices' lengths are tested first, then the shape, then what the call itself refuses.
-mod making;
-mod starting;
 mod stepping;
 
 use rules::Report;
 use rules::Sizes;
 ghost use mathlib.Core.Path.{_≡_};
-ghost use mathlib.Core.Bool.{Bool};
-ghost use Prim.Native.Nat.{ℕ};
 ghost use Rattle.rules.specs.Words.{_and_};
 ghost use Rattle.rules.specs.Shape.{shape};
 ghost use Rattle.rules.specs.Calls.{Call};

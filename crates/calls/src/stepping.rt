@@ -1,7 +1,6 @@
 // Step: what the task's stage decides is done.
 use rules::Report;
 use rules::Sizes;
-use rules::Task;
 ghost use mathlib.Core.Path.{_≡_};
 ghost use mathlib.Core.Bool.{true};
 ghost use Rattle.rules.specs.Shape.{shape};
