@@ -254,7 +254,7 @@ fn main() {
     let times: Vec<Vec<Figures>> = all.iter().map(|s| s.1.iter().map(|c| measure_case(c, 100)).collect()).collect();
 
     println!("# Figures\n");
-    println!("Made by `tests/bench.sh` in one run, on {} with two cores. Rattle is the archive of `crates/host` that `tests/archive.sh` makes for this machine (LLVM at -O3), called through the C boundary; Rust is `rust/model`, the second implementation, built for release (opt-level 3). Both check the shape in every call; that each number lies in its table is part of Rattle's check, and Rust's typed structs have it for nothing. A time is the median of {RUNS} runs, the two sides in turn, and a run's is the median of 100 calls, each on the same state restored before it; a ratio is Rattle to Rust, below 1 where Rattle is faster. Instructions are callgrind's, of one call.\n", std::env::consts::ARCH);
+    println!("Made by `tests/bench.sh` in one run, on {} with two cores. Rattle is the archive of `crates/host` that `tests/archive.sh` makes for this machine (LLVM at -O3), called through the C boundary; Rust is `rust/model`, the second implementation, built for release (opt-level 3). Both check the shape in every call, that each number lies in its table included; that a mark, a status or a stage is one of its kind is part of Rattle's check, and Rust's typed structs have it for nothing. It is the same program in the rules that it follows, not line for line: an earlier second implementation, with numbers that its types kept in their tables, walked fuller tables with fewer instructions (Rattle 1.17 times as many in the longest state, in 0.71 of its time). A time is the median of {RUNS} runs, the two sides in turn, and a run's is the median of 100 calls, each on the same state restored before it; a ratio is Rattle to Rust, below 1 where Rattle is faster. Instructions are callgrind's, of one call.\n", std::env::consts::ARCH);
     println!("## A call of each stage\n\n100 keys present, put in random order; the other tasks are idle; the task works on the last key of the last chunk.\n");
     stage_table(&all[0].1, &times[0], &counts[0]);
     println!("\n## Whole operations\n\nThe start and every step to the end, nobody else at work, over nine present keys (10, 100 and 500 keys put in random order). Put finds its key.\n");
@@ -267,7 +267,7 @@ fn main() {
     let share = counts[0].iter().zip(&all[0].1).filter(|(_, c)| c.name.starts_with("22"));
     for (count, _) in share {
         if let (Some(shape), Some(scan)) = (counts[0][0], count) {
-            println!("The check of the shape is nearly all of a call: {:.0} of {:.0} instructions of a scan's step at 100 keys. So all stages but 8 cost the same, and grow with the used entries and the live chunks as the check does. Rattle's check also tests what Rust's types rule out: two numbers in each used entry, 560 marks, every status, stage and flag.", shape.linked, scan.linked);
+            println!("The check of the shape is nearly all of a call: {:.0} of {:.0} instructions of a scan's step at 100 keys. So all stages but 8 cost the same, and grow with the used entries and the live chunks as the check does. Rattle's check also tests what Rust's types rule out: 560 marks, every status, stage and flag.", shape.linked, scan.linked);
         }
     }
     let [hundred, longest] = [&all[0].1[0], &all[1].1[0]].map(|c| {
