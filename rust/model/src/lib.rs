@@ -1,4 +1,4 @@
-//! A second implementation of document 01, in plain Rust with typed structs. Its author had document 01 and the header, and none of the proved code or its rules.
+//! A second implementation of document 01, in plain Rust with typed structs, written from that document and the header alone.
 
 mod calls;
 mod rebalance;
