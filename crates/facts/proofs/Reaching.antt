@@ -2,7 +2,6 @@
 use mathlib.Core.Path.{_≡_, refl, sym, ap, _∙_}
 use mathlib.Core.Logic.{_≢_}
 use mathlib.Core.Bool.{Bool, true, false}
-use mathlib.Core.List.{List, [], _∷_}
 use lib.Dec.{eqb}
 use borrow.Author.Tests.{eqb-true}
 use Rattle.rules.specs.declared.Sizes.{Sizes}
@@ -16,7 +15,7 @@ use Rattle.rules.specs.Calls.{Call, fresh, does, calls}
 use Rattle.rules.specs.Calls.Call.{start, step, begin, rebalance}
 use Rattle.laws.proofs.Tests.{picked}
 use Rattle.facts.specs.Facts.{Limited, Kept}
-use Rattle.facts.specs.Reached.{Reached, after}
+use Rattle.facts.specs.Reached.{Reached}
 use Rattle.facts.specs.ShapeHolds.{ShapeHolds}
 use Rattle.facts.proofs.Shapes.{has-shape}
 use Rattle.facts.proofs.Fresh.{fresh-kept}
@@ -54,12 +53,6 @@ module _ (z : Sizes) (lim : Limited z) where
   pub reached-kept : {s : Tables} → Reached z s → Kept z s
   reached-kept Reached.started = fresh-kept z lim
   reached-kept (Reached.called {s = s′} r c) = call-kept s′ (reached-kept r) c
-
-  -- a list of calls reaches its tables
-  pub after-reached : (l : List Call) (s : Tables) → Reached z s → Reached z (after z l s)
-  unfolding after
-  after-reached [] s r = r
-  after-reached (c ∷ l) s r = after-reached l (calls z s c .tables) (Reached.called r c)
 
   pub shape-holds : ShapeHolds z
   shape-holds =

@@ -1,5 +1,4 @@
 -- The tables that some order of calls, with any numbers in them, makes of fresh ones.
-use mathlib.Core.List.{List, [], _∷_}
 use Rattle.rules.specs.declared.Sizes.{Sizes}
 use Rattle.rules.specs.Tables.{Tables}
 use Rattle.rules.specs.Calls.{Call, fresh, calls}
@@ -7,8 +6,3 @@ use Rattle.rules.specs.Calls.{Call, fresh, calls}
 pub data Reached (z : Sizes) : Tables → Type 0 where
   started : Reached z (fresh z)
   called : {s : Tables} → Reached z s → (c : Call) → Reached z (calls z s c .tables)
-
--- the tables after a list of calls
-unfoldable pub after : Sizes → List Call → Tables → Tables
-after z [] s = s
-after z (c ∷ l) s = after z l (calls z s c .tables)

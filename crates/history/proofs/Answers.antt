@@ -77,6 +77,28 @@ module _ (z : Sizes) (lim : Limited z) (run : ℕ → Call) where
       go (Turn.steps b) = by b (decides-goes z lim s (run-reached z run lim i) n busy)
       go (Turn.rests b) = gone-on (task s n) (b .row) busy
 
+  over : (n i : ℕ) → taskAt z run i n .stage ≢ 0 → run i ≡ step n → (isAnswer (reportAt z run i) ≡ true) ⊎ (reportAt z run i ≡ report.Refused 9) → taskAt z run (suc i) n .stage ≡ 0
+  over n i busy e r = ap (λ (t : Task). t .stage) (row-next z run lim n i ∙ own-step n i busy e .row) ∙ by r (decides-goes z lim s (run-reached z run lim i) n busy)
+    where
+      s : Tables
+      s = tablesAt z run i
+
+      x : Decision
+      x = Stages.decide z s (task s n)
+
+      reported : reportAt z run i ≡ x .report
+      reported = ap (λ (o : Outcome). o .report) (own-step n i busy e .done)
+
+      loud : (isAnswer (reportAt z run i) ≡ true) ⊎ (reportAt z run i ≡ report.Refused 9) → ending (x .report) ≡ false → ⊥
+      loud (inl a) = answer-ends (x .report) (ap isAnswer (sym reported) ∙ a)
+      loud (inr a) = nine-ends (x .report) (sym reported ∙ a)
+
+      by : (isAnswer (reportAt z run i) ≡ true) ⊎ (reportAt z run i ≡ report.Refused 9) → Goes z s n x → x .task .stage ≡ 0
+      by r (Goes.on w _ _ _) = absurd (loud r (w .quiet))
+      by r (Goes.turns w _ _ _ _ _) = absurd (loud r (w .quiet))
+      by r (Goes.answers idle _ _) = idle
+      by r (Goes.refuses idle _ _ _) = idle
+
   -- ---- an operation's own step, call i + 1
   module _ (n op k a f j i : ℕ) (w : Working z run n op k a f j (suc i)) (e : run (suc i) ≡ step n) where
     abbrev s : Tables
@@ -163,4 +185,4 @@ module _ (z : Sizes) (lim : Limited z) (run : ℕ → Call) where
   refused n op k a f j (suc i) w e r = step-refused n op k a f j i w e r
 
 pub answers : (z : Sizes) → Limited z → AnswersAsMap z
-answers z lim = record { begun = λ run n i. begun z run lim n i; ends = ends z lim; answered = answered z lim; refused = refused z lim }
+answers z lim = record { begun = λ run n i. begun z run lim n i; ends = ends z lim; over = over z lim; answered = answered z lim; refused = refused z lim }

@@ -57,6 +57,8 @@ pub record AnswersAsMap (z : Sizes) : Type 0 where
   pub begun : (run : ℕ → Call) (n i : ℕ) → taskAt z run i n .stage ≢ 0 → Begun z run n i
   -- it ends by a step of its own, with an answer or by refusal 9
   pub ends : (run : ℕ → Call) (n i : ℕ) → taskAt z run i n .stage ≢ 0 → taskAt z run (suc i) n .stage ≡ 0 → (run i ≡ step n) × ((isAnswer (reportAt z run i) ≡ true) ⊎ (reportAt z run i ≡ report.Refused 9))
+  -- and such a report ends it: no operation answers twice
+  pub over : (run : ℕ → Call) (n i : ℕ) → taskAt z run i n .stage ≢ 0 → run i ≡ step n → (isAnswer (reportAt z run i) ≡ true) ⊎ (reportAt z run i ≡ report.Refused 9) → taskAt z run (suc i) n .stage ≡ 0
   pub answered : (run : ℕ → Call) (n op k a f j i : ℕ) → Working z run n op k a f j i → op ≢ scan → run i ≡ step n → isAnswer (reportAt z run i) ≡ true →
       ByChange z run n op k a f j i (reportAt z run i) ⊎ ByLooking z run n op k a f j i (reportAt z run i)
   -- "An operation ended by refusal 9 has no deciding step"
