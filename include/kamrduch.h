@@ -2,10 +2,11 @@
  * C11, and usable from C++. Every number here is that of docs/PROMISES.md, and every call keeps the promise named there.
  *
  * The library allocates nothing, has no state of its own, and leaves no name for the host to define. No length and no word of a
- * table is wrong to pass: a call on tables of another length or without the shape is refused by 10 and changes nothing. Three
- * things are the host's to see to: a pointer reads and writes as many words as its length says, is not null even where the
- * length is 0, and no two of a call's slices share a word; and nothing else touches the tables while a call runs (mask
- * interrupts, or hold a lock, around each call). */
+ * table is wrong to pass: a call on tables of another length is refused by 10 and changes nothing, and so is any call but fresh
+ * on tables without the shape. fresh looks at the lengths alone: it reads no word, and writes every one. Three things are the
+ * host's to see to: a pointer reads and writes as many words as its length says, is not null even where the length is 0, and no
+ * two of a call's slices share a word; and nothing else touches the tables while a call runs (mask interrupts, or hold a lock,
+ * around each call). */
 #ifndef KAMRDUCH_H
 #define KAMRDUCH_H
 
@@ -127,16 +128,19 @@ enum kamrduch_refusal {
     KAMRDUCH_NO_CHUNKS = 7,         /* begin: fewer than two unused chunks */
     KAMRDUCH_REBALANCE_IDLE = 8,    /* rebalance */
     KAMRDUCH_NO_HANDLE = 9,         /* step at stage 8: the task becomes idle, all else is as it was */
-    KAMRDUCH_NO_SHAPE = 10          /* any call: a length or a word that no reached state has */
+    KAMRDUCH_NO_SHAPE = 10          /* any call: a table of another length; any but fresh: tables that fail the shape. No call
+                                       on tables that fresh made and only these calls have changed is refused so */
 };
 
 /* ---- the calls
  * Each takes the six tables in one order, each as its first word and its length, then its numbers, then the answer.
- * An answer of another length than two words is refused by 10: the call returns 0 and writes no word anywhere, the answer's included.
+ * With an answer of another length than two words a call returns 0, as a refused one does, and writes no word anywhere, the
+ * answer's included: nobody is told a number of refusal then.
  * A refused call leaves every word of every table as it found it, save a step refused by 9. A table lent as const is never written. */
 
-/* Makes the fresh directory over whatever the tables held: chunk 0 live and empty, all else unused and idle, every value and mark 0.
- * Returns done; refused by 10 where a length is another. */
+/* Makes the fresh directory over whatever the tables held, words that nobody has written too: chunk 0 live and empty, all else
+ * unused and idle, every value and mark 0. Whatever was at work there is gone: the directory's history begins anew.
+ * Returns done; refused by 10 where a table's length is another. */
 uint64_t kamrduch_fresh(uint64_t *directory, size_t directory_length, uint64_t *tasks, size_t tasks_length,
                         uint64_t *chunks, size_t chunks_length, uint64_t *entries, size_t entries_length,
                         uint64_t *values, size_t values_length, uint64_t *marks, size_t marks_length,

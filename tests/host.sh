@@ -1,5 +1,5 @@
 #!/usr/bin/env bash
-# The library as a host links it: the header in C and C++, the example under valgrind, and the comparison with the second implementation.
+# The library as a host links it: the header in C and C++, the example and tables that nobody has written under valgrind, and the comparison with the second implementation.
 set -euo pipefail
 cd "$(dirname "$0")/.."
 command -v cargo >/dev/null || PATH=${CARGO_HOME:-$HOME/.cargo}/bin:$PATH
@@ -20,6 +20,10 @@ g++ -std=c++11 -Wall -Wextra -Werror -pedantic -fsyntax-only -x c++ include/kamr
 gcc -std=c11 -O2 -g -Wall -Wextra -Werror -pedantic -o "$made/example" examples/host.c "$archive"
 valgrind -q --error-exitcode=1 "$made/example" >"$made/example.out"
 same "$made/example.out" "the example"
+
+# tables that nobody has written, each memory of its own, under valgrind
+gcc -std=c11 -O2 -g -Wall -Wextra -Werror -pedantic -o "$made/fresh" tests/fresh.c "$archive"
+valgrind -q --error-exitcode=1 --leak-check=full "$made/fresh"
 
 # the second implementation by itself; then reports and tables against it, through the C boundary; more with SEED and CALLS as arguments
 export CARGO_TARGET_DIR=$PWD/target/cargo KAMRDUCH_ARCHIVE=$PWD/$archive

@@ -15,13 +15,13 @@ use Rattle.rules.specs.Shape.{shape}
 use Rattle.rules.specs.Calls.{Call, fresh, does, calls}
 use Rattle.rules.proofs.Tests.{and-left, and-right, both}
 use Rattle.rows.specs.Rows.{Lent}
-use Rattle.calls.specs.Promise.{Words, tablesOf, lent, Promise, Makes}
+use Rattle.calls.specs.Promise.{Lending, tablesOf, lent, Promise, Makes}
 
 leading : (a b : ℕ) (rest : Bool) → (eqb a b and rest) ≡ true → a ≡ b
 leading a b rest t = eqb-true a b (and-left (eqb a b) rest t)
 
 -- the lengths, by name
-pub lent-lengths : (z : Sizes) (w : Words) → lent z w ≡ true → Lent z (w .directory) (w .tasks) (w .chunks) (w .entries) (w .values) (w .marks)
+pub lent-lengths : (z : Sizes) (w : Lending) → lent z w ≡ true → Lent z (w .directory) (w .tasks) (w .chunks) (w .entries) (w .values) (w .marks)
 lent-lengths z w t =
     let a1 = and-right (eqb (length (w .directory)) 5) _ t in
     let a2 = and-right (eqb (length (w .tasks)) (z .tasks * 11)) _ a1 in
@@ -36,11 +36,11 @@ lent-lengths z w t =
       marks = eqb-true (length (w .marks)) (z .handles) (and-right (eqb (length (w .values)) (z .handles)) _ a4);
     }
 
-pub lengths-lent : (z : Sizes) (w : Words) → Lent z (w .directory) (w .tasks) (w .chunks) (w .entries) (w .values) (w .marks) → lent z w ≡ true
+pub lengths-lent : (z : Sizes) (w : Lending) → Lent z (w .directory) (w .tasks) (w .chunks) (w .entries) (w .values) (w .marks) → lent z w ≡ true
 lengths-lent z w l =
     rw (eq-eqb _ _ (l .directory), eq-eqb _ _ (l .tasks), eq-eqb _ _ (l .chunks), eq-eqb _ _ (l .entries), eq-eqb _ _ (l .values), eq-eqb _ _ (l .marks))
 
-module _ (z : Sizes) (c : Call) (before : Words) where
+module _ (z : Sizes) (c : Call) (before : Lending) where
   -- the words are not lent as asked, or fail the shape
   pub refused : (lent z before and shape z (tablesOf z before)) ≡ false → Promise z c before before (report.Refused 10)
   unfolding calls
@@ -51,7 +51,7 @@ module _ (z : Sizes) (c : Call) (before : Words) where
       go true e t = record { refuses = λ h. absurd (true≢false (sym e ∙ h)); reports = λ h. rw t; leaves = λ h. rw t; lends = λ h. h }
 
   -- the words are lent as asked and have the shape, and the call does what the rules do
-  pub done : (after : Words) (r : Report) → (lent z before and shape z (tablesOf z before)) ≡ true → r ≡ does z (tablesOf z before) c .report → tablesOf z after ≡ does z (tablesOf z before) c .tables → lent z after ≡ true → Promise z c before after r
+  pub done : (after : Lending) (r : Report) → (lent z before and shape z (tablesOf z before)) ≡ true → r ≡ does z (tablesOf z before) c .report → tablesOf z after ≡ does z (tablesOf z before) c .tables → lent z after ≡ true → Promise z c before after r
   unfolding calls
   done after r t reports leaves lends =
       let l = and-left (lent z before) (shape z (tablesOf z before)) t in
@@ -59,15 +59,15 @@ module _ (z : Sizes) (c : Call) (before : Words) where
       record { refuses = λ h. absurd (true≢false (sym l ∙ h)); reports = λ h. rw s (ap told reports); leaves = λ h. rw s leaves; lends = λ h. lends }
 
 -- ---- the fresh directory
-module _ (z : Sizes) (before : Words) where
+module _ (z : Sizes) (before : Lending) where
   pub makes-refused : lent z before ≡ false → Makes z before before (report.Refused 10)
   makes-refused e = record { refuses = λ h. (refl, refl); reports = λ h. absurd (true≢false (sym h ∙ e)); leaves = λ h. absurd (true≢false (sym h ∙ e)); lends = λ h. h }
 
-  pub makes-done : (after : Words) → lent z before ≡ true → tablesOf z after ≡ fresh z → lent z after ≡ true → Makes z before after report.Done
+  pub makes-done : (after : Lending) → lent z before ≡ true → tablesOf z after ≡ fresh z → lent z after ≡ true → Makes z before after report.Done
   makes-done after e leaves lends = record { refuses = λ h. absurd (true≢false (sym e ∙ h)); reports = λ h. refl; leaves = λ h. leaves; lends = λ h. lends }
 
 -- ---- slices that are as long as they were
-pub record Long (a b : Words) : Type 0 where
+pub record Long (a b : Lending) : Type 0 where
   pub directory : length (b .directory) ≡ length (a .directory)
   pub tasks : length (b .tasks) ≡ length (a .tasks)
   pub chunks : length (b .chunks) ≡ length (a .chunks)
@@ -75,5 +75,5 @@ pub record Long (a b : Words) : Type 0 where
   pub values : length (b .values) ≡ length (a .values)
   pub marks : length (b .marks) ≡ length (a .marks)
 
-pub still-lent : (z : Sizes) (a b : Words) → lent z a ≡ true → Long a b → lent z b ≡ true
+pub still-lent : (z : Sizes) (a b : Lending) → lent z a ≡ true → Long a b → lent z b ≡ true
 still-lent z a b e l = rw (l .directory, l .tasks, l .chunks, l .entries, l .values, l .marks) e

@@ -1,5 +1,5 @@
 -- What each call promises of its report and of every word of the lent tables (document 01, "How tightly each call is promised").
-use Prim.Native.Nat.{ℕ, _*_, _^_, _<_}
+use Prim.Native.Nat.{ℕ, _*_}
 use mathlib.Core.Path.{_≡_}
 use mathlib.Core.Bool.{Bool, true, false}
 use mathlib.Core.List.{List}
@@ -11,12 +11,13 @@ use Rattle.rules.specs.declared.Report.the-variants as report
 use Rattle.rules.specs.Words.{_and_}
 use Rattle.rules.specs.Told.{told}
 use Rattle.rules.specs.Tables.{Tables}
-use Rattle.rules.specs.Shape.{shape}
+use Rattle.rules.specs.Layout.{tables}
+use Rattle.rules.specs.Rebalance.{Outcome, gives}
 use Rattle.rules.specs.Calls.{Call, fresh, calls}
-use Rattle.rows.specs.Rows.{tables}
+use Rattle.rows.specs.Rows.{Slice}
 
 -- the words of every table that a host lends
-pub record Words : Type 0 where
+pub record Lending : Type 0 where
   pub directory : List ℕ
   pub tasks : List ℕ
   pub chunks : List ℕ
@@ -24,15 +25,23 @@ pub record Words : Type 0 where
   pub values : List ℕ
   pub marks : List ℕ
 
-abbrev pub words : List ℕ → List ℕ → List ℕ → List ℕ → List ℕ → List ℕ → Words
-words d ts cs es vs ms = record { directory = d; tasks = ts; chunks = cs; entries = es; values = vs; marks = ms }
+abbrev pub lending : List ℕ → List ℕ → List ℕ → List ℕ → List ℕ → List ℕ → Lending
+lending d ts cs es vs ms = record { directory = d; tasks = ts; chunks = cs; entries = es; values = vs; marks = ms }
+
+-- as they are lent to a call, and as it leaves them; a Slice is a lent slice as an `ensures` has it, at the call's entry and at its exit
+module _ (d ts cs es vs ms : Slice) where
+  abbrev pub wordsLent : Lending
+  wordsLent = lending (d .entry .now) (ts .entry .now) (cs .entry .now) (es .entry .now) (vs .entry .now) (ms .entry .now)
+
+  abbrev pub wordsLeft : Lending
+  wordsLeft = lending (d .exit .now) (ts .exit .now) (cs .exit .now) (es .exit .now) (vs .exit .now) (ms .exit .now)
 
 -- the tables that the words are
-abbrev pub tablesOf : Sizes → Words → Tables
+abbrev pub tablesOf : Sizes → Lending → Tables
 tablesOf z w = tables z (w .directory) (w .tasks) (w .chunks) (w .entries) (w .values) (w .marks)
 
 -- each slice has the length that the sizes ask
-abbrev pub lent : Sizes → Words → Bool
+abbrev pub lent : Sizes → Lending → Bool
 lent z w =
     eqb (length (w .directory)) 5
     and eqb (length (w .tasks)) (z .tasks * 11)
@@ -41,22 +50,16 @@ lent z w =
     and eqb (length (w .values)) (z .handles)
     and eqb (length (w .marks)) (z .handles)
 
--- the lengths that the sizes ask are numbers of the machine
-pub record Fits (z : Sizes) : Type 0 where
-  pub tasks : z .tasks * 11 < 2 ^ 64
-  pub chunks : z .chunks * 6 < 2 ^ 64
-  pub entries : z .chunks * z .entries * 3 < 2 ^ 64
-
--- a call on the words before gives the report and leaves the words after: slices of another length are refused by 10 and left as found; on all others report and tables are those of the rules
-pub record Promise (z : Sizes) (c : Call) (before after : Words) (r : Report) : Type 0 where
+-- on the words before the report and the words after are those of a rule; slices of another length are refused by 10 and left as found
+pub record Obeys (z : Sizes) (rule : Tables → Outcome) (before after : Lending) (r : Report) : Type 0 where
   pub refuses : lent z before ≡ false → (told r ≡ told (report.Refused 10)) × (after ≡ before)
-  pub reports : lent z before ≡ true → told r ≡ told (calls z (tablesOf z before) c .report)
-  pub leaves : lent z before ≡ true → tablesOf z after ≡ calls z (tablesOf z before) c .tables
+  pub reports : lent z before ≡ true → told r ≡ told (rule (tablesOf z before) .report)
+  pub leaves : lent z before ≡ true → tablesOf z after ≡ rule (tablesOf z before) .tables
   pub lends : lent z before ≡ true → lent z after ≡ true
 
--- the fresh directory is made over whatever the words held
-pub record Makes (z : Sizes) (before after : Words) (r : Report) : Type 0 where
-  pub refuses : lent z before ≡ false → (told r ≡ told (report.Refused 10)) × (after ≡ before)
-  pub reports : lent z before ≡ true → told r ≡ told report.Done
-  pub leaves : lent z before ≡ true → tablesOf z after ≡ fresh z
-  pub lends : lent z before ≡ true → lent z after ≡ true
+-- a call promises what the rules do, and `fresh` to make the fresh directory over whatever the words held
+abbrev pub Promise : Sizes → Call → Lending → Lending → Report → Type 0
+Promise z c = Obeys z (λ s. calls z s c)
+
+abbrev pub Makes : Sizes → Lending → Lending → Report → Type 0
+Makes z = Obeys z (λ s. gives (fresh z) report.Done)

@@ -7,7 +7,8 @@ ghost use mathlib.Core.Path.{_≡_};
 ghost use Rattle.rules.specs.Words.{_and_};
 ghost use Rattle.rules.specs.Shape.{shape};
 ghost use Rattle.rules.specs.Calls.{Call};
-ghost use Rattle.calls.specs.Promise.{words, tablesOf, lent, Fits, Promise, Makes};
+ghost use Rattle.calls.specs.Fits.{Fits};
+ghost use Rattle.calls.specs.Promise.{tablesOf, lent, Promise, Makes, wordsLent, wordsLeft};
 
 // Each slice has the length that the sizes ask.
 pub fn is_lent(
@@ -20,18 +21,18 @@ pub fn is_lent(
     marks: &[u64],
 ) -> bool
     requires { ⌜ Fits z ⌝ }
-    ensures { λ r. ⌜ r ≡ lent z (words (now (directory .entry)) (now (tasks .entry)) (now (chunks .entry)) (now (entries .entry)) (now (values .entry)) (now (marks .entry))) ⌝ }
+    ensures { λ r. ⌜ r ≡ lent z (wordsLent directory tasks chunks entries values marks) ⌝ }
 {
-    if directory.len() != 5 {
+    if directory.len() != rows::DIRECTORY_WORDS {
         return false;
     }
-    if tasks.len() != z.tasks * 11 {
+    if tasks.len() != z.tasks * rows::TASK_WORDS {
         return false;
     }
-    if chunks.len() != z.chunks * 6 {
+    if chunks.len() != z.chunks * rows::CHUNK_WORDS {
         return false;
     }
-    if entries.len() != z.chunks * z.entries * 3 {
+    if entries.len() != z.chunks * z.entries * rows::ENTRY_WORDS {
         return false;
     }
     if values.len() != z.handles {
@@ -51,7 +52,7 @@ pub fn is_ready(
     marks: &[u64],
 ) -> bool
     requires { ⌜ Fits z ⌝ }
-    ensures { λ r. ⌜ r ≡ (lent z (words (now (directory .entry)) (now (tasks .entry)) (now (chunks .entry)) (now (entries .entry)) (now (values .entry)) (now (marks .entry))) and shape z (tablesOf z (words (now (directory .entry)) (now (tasks .entry)) (now (chunks .entry)) (now (entries .entry)) (now (values .entry)) (now (marks .entry))))) ⌝ }
+    ensures { λ r. ⌜ r ≡ (lent z (wordsLent directory tasks chunks entries values marks) and shape z (tablesOf z (wordsLent directory tasks chunks entries values marks))) ⌝ }
 {
     if !is_lent(z, directory, tasks, chunks, entries, values, marks) {
         return false;
@@ -70,7 +71,7 @@ pub fn fresh(
     marks: &mut [u64],
 ) -> Report
     requires { ⌜ Fits z ⌝ }
-    ensures { λ r. ⌜ Makes z (words (now (directory .entry)) (now (tasks .entry)) (now (chunks .entry)) (now (entries .entry)) (now (values .entry)) (now (marks .entry))) (words (now (directory .exit)) (now (tasks .exit)) (now (chunks .exit)) (now (entries .exit)) (now (values .exit)) (now (marks .exit))) r ⌝ }
+    ensures { λ r. ⌜ Makes z (wordsLent directory tasks chunks entries values marks) (wordsLeft directory tasks chunks entries values marks) r ⌝ }
 {
     if !is_lent(z, directory, tasks, chunks, entries, values, marks) {
         return Report::Refused(10);
@@ -95,7 +96,7 @@ pub fn start(
     f: u64,
 ) -> Report
     requires { ⌜ Fits z ⌝ }
-    ensures { λ r. ⌜ Promise z (Call.start n op k a f) (words (now (directory .entry)) (now (tasks .entry)) (now (chunks .entry)) (now (entries .entry)) (now (values .entry)) (now (marks .entry))) (words (now (directory .entry)) (now (tasks .exit)) (now (chunks .entry)) (now (entries .entry)) (now (values .entry)) (now (marks .entry))) r ⌝ }
+    ensures { λ r. ⌜ Promise z (Call.start n op k a f) (wordsLent directory tasks chunks entries values marks) (wordsLeft directory tasks chunks entries values marks) r ⌝ }
 {
     if !is_ready(z, directory, tasks, chunks, entries, values, marks) {
         return Report::Refused(10);
@@ -115,7 +116,7 @@ pub fn step(
     n: u64,
 ) -> Report
     requires { ⌜ Fits z ⌝ }
-    ensures { λ r. ⌜ Promise z (Call.step n) (words (now (directory .entry)) (now (tasks .entry)) (now (chunks .entry)) (now (entries .entry)) (now (values .entry)) (now (marks .entry))) (words (now (directory .entry)) (now (tasks .exit)) (now (chunks .exit)) (now (entries .exit)) (now (values .exit)) (now (marks .exit))) r ⌝ }
+    ensures { λ r. ⌜ Promise z (Call.step n) (wordsLent directory tasks chunks entries values marks) (wordsLeft directory tasks chunks entries values marks) r ⌝ }
 {
     if !is_ready(z, directory, tasks, chunks, entries, values, marks) {
         return Report::Refused(10);
@@ -135,7 +136,7 @@ pub fn begin(
     k: u64,
 ) -> Report
     requires { ⌜ Fits z ⌝ }
-    ensures { λ r. ⌜ Promise z (Call.begin k) (words (now (directory .entry)) (now (tasks .entry)) (now (chunks .entry)) (now (entries .entry)) (now (values .entry)) (now (marks .entry))) (words (now (directory .exit)) (now (tasks .entry)) (now (chunks .exit)) (now (entries .entry)) (now (values .entry)) (now (marks .entry))) r ⌝ }
+    ensures { λ r. ⌜ Promise z (Call.begin k) (wordsLent directory tasks chunks entries values marks) (wordsLeft directory tasks chunks entries values marks) r ⌝ }
 {
     if !is_ready(z, directory, tasks, chunks, entries, values, marks) {
         return Report::Refused(10);
@@ -154,7 +155,7 @@ pub fn go_on(
     marks: &[u64],
 ) -> Report
     requires { ⌜ Fits z ⌝ }
-    ensures { λ r. ⌜ Promise z Call.rebalance (words (now (directory .entry)) (now (tasks .entry)) (now (chunks .entry)) (now (entries .entry)) (now (values .entry)) (now (marks .entry))) (words (now (directory .exit)) (now (tasks .entry)) (now (chunks .exit)) (now (entries .exit)) (now (values .entry)) (now (marks .entry))) r ⌝ }
+    ensures { λ r. ⌜ Promise z Call.rebalance (wordsLent directory tasks chunks entries values marks) (wordsLeft directory tasks chunks entries values marks) r ⌝ }
 {
     if !is_ready(z, directory, tasks, chunks, entries, values, marks) {
         return Report::Refused(10);

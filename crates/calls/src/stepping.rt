@@ -6,7 +6,7 @@ ghost use mathlib.Core.Bool.{true};
 ghost use Rattle.rules.specs.Shape.{shape};
 ghost use Rattle.rules.specs.Calls.{steps};
 ghost use Rattle.rules.specs.Rebalance.{gives};
-ghost use Rattle.rows.specs.Rows.{Lent, tables};
+ghost use Rattle.rows.specs.Rows.{asLent, asLeft, Lends, tablesNow};
 
 // Refusals 1 and 3, or the task's row and at most one write elsewhere.
 pub fn step(
@@ -19,8 +19,8 @@ pub fn step(
     marks: &mut [u64],
     n: u64,
 ) -> Report
-    requires { ⌜ Lent z (now directory) (now tasks) (now chunks) (now entries) (now values) (now marks) × (shape z (tables z (now directory) (now tasks) (now chunks) (now entries) (now values) (now marks)) ≡ true) ⌝ }
-    ensures { λ r. ⌜ gives (tables z (now (directory .entry)) (now (tasks .exit)) (now (chunks .exit)) (now (entries .exit)) (now (values .exit)) (now (marks .exit))) r ≡ steps z (tables z (now (directory .entry)) (now (tasks .entry)) (now (chunks .entry)) (now (entries .entry)) (now (values .entry)) (now (marks .entry))) n ⌝ }
+    requires { ⌜ Lends z directory tasks chunks entries values marks × (shape z (tablesNow z directory tasks chunks entries values marks) ≡ true) ⌝ }
+    ensures { λ r. ⌜ gives (asLeft z directory tasks chunks entries values marks) r ≡ steps z (asLent z directory tasks chunks entries values marks) n ⌝ }
 {
     let i = n as usize;
     if z.tasks <= i {
@@ -30,7 +30,7 @@ pub fn step(
     if t.stage == 0 {
         return Report::Refused(3);
     }
-    let x = turn::move_on(z, directory, tasks, chunks, entries, values, marks, t);
+    let x = turn::lend(z, directory, tasks, chunks, entries, values, marks, t);
     rows::put_task_row(tasks, i, x.task);
     x.report
 }

@@ -23,25 +23,23 @@ pub fn naming(z: Sizes, entries: &[u64], c: ChunkNo, from: Place) -> Place
     requires { ⌜ (c .0 < z .chunks) × (length (now entries) ≡ z .chunks * z .entries * 3) ⌝ }
     ensures { λ r. ⌜ Stands z (entryRows (z .chunks * z .entries) (now (entries .entry))) c from r ⌝ }
 {
-    let mut at = from.entry.0;
+    let mut at = from.entry;
     let mut left = from.left;
     while 0 < left {
-        let i = at as usize;
-        if z.entries <= i {
+        if z.entries <= at.0 as usize {
             return Place {
                 entry: EntryNo(NONE),
                 left: 0,
             };
         }
-        let x = rows::entry_at(z, entries, c, EntryNo(at));
-        let h = x.handle.0 as usize;
-        if h < z.handles {
+        let x = rows::entry_at(z, entries, c, at);
+        if (x.handle.0 as usize) < z.handles {
             return Place {
-                entry: EntryNo(at),
+                entry: at,
                 left: left,
             };
         }
-        at = x.next.0;
+        at = x.next;
         left -= 1;
     }
     Place {
@@ -56,7 +54,7 @@ pub fn naming_count(z: Sizes, entries: &[u64], c: ChunkNo, head: EntryNo) -> usi
     ensures { λ r. ⌜ (r ≡ length (namingFrom z (entryRows (z .chunks * z .entries) (now (entries .entry))) c (z .entries) head)) × (r ≤ z .entries) ⌝ }
 {
     let mut count: usize = 0;
-    let mut at = head.0;
+    let mut at = head;
     let mut left = z.entries;
     while 0 < left {
         let here = naming(
@@ -64,7 +62,7 @@ pub fn naming_count(z: Sizes, entries: &[u64], c: ChunkNo, head: EntryNo) -> usi
             entries,
             c,
             Place {
-                entry: EntryNo(at),
+                entry: at,
                 left: left,
             },
         );
@@ -72,7 +70,7 @@ pub fn naming_count(z: Sizes, entries: &[u64], c: ChunkNo, head: EntryNo) -> usi
             return count;
         }
         let e = here.entry;
-        at = rows::entry_at(z, entries, c, e).next.0;
+        at = rows::entry_at(z, entries, c, e).next;
         left = here.left - 1;
         count += 1;
     }
@@ -125,7 +123,7 @@ pub fn fill(
     ensures { λ r. ⌜ Filled z (entryRows (z .chunks * z .entries) (now (entries .entry))) (entryRows (z .chunks * z .entries) (now (entries .exit))) old from r into many ⌝ }
 {
     let mut n: usize = 0;
-    let mut at = from.entry.0;
+    let mut at = from.entry;
     let mut left = from.left;
     while n < many {
         let here = naming(
@@ -133,19 +131,19 @@ pub fn fill(
             entries,
             old,
             Place {
-                entry: EntryNo(at),
+                entry: at,
                 left: left,
             },
         );
         let e = here.entry;
         let x = rows::entry_at(z, entries, old, e);
         rows::put_entry(z, entries, into, EntryNo(n as u64), copied(x, n, many));
-        at = x.next.0;
+        at = x.next;
         left = here.left - 1;
         n += 1;
     }
     Place {
-        entry: EntryNo(at),
+        entry: at,
         left: left,
     }
 }

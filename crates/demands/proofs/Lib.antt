@@ -1,1 +1,3 @@
+pub mod CodeRuns
+pub mod Marked
 pub mod Demands

@@ -4,7 +4,7 @@ use rules::Report;
 use rules::Sizes;
 ghost use Rattle.rules.specs.Words.{limits};
 ghost use Rattle.rules.specs.Calls.{Call};
-ghost use Rattle.calls.specs.Promise.{words, Promise, Makes};
+ghost use Rattle.calls.specs.Promise.{Promise, Makes, wordsLent, wordsLeft};
 
 // The fresh directory, over whatever the tables held.
 pub fn fresh(
@@ -15,7 +15,7 @@ pub fn fresh(
     values: &mut [u64],
     marks: &mut [u64],
 ) -> Report
-    ensures { λ r. ⌜ Makes limits (words (now (directory .entry)) (now (tasks .entry)) (now (chunks .entry)) (now (entries .entry)) (now (values .entry)) (now (marks .entry))) (words (now (directory .exit)) (now (tasks .exit)) (now (chunks .exit)) (now (entries .exit)) (now (values .exit)) (now (marks .exit))) r ⌝ }
+    ensures { λ r. ⌜ Makes limits (wordsLent directory tasks chunks entries values marks) (wordsLeft directory tasks chunks entries values marks) r ⌝ }
 {
     calls::fresh(
         Directory::sizes(),
@@ -42,7 +42,7 @@ pub fn start(
     a: u64,
     f: u64,
 ) -> Report
-    ensures { λ r. ⌜ Promise limits (Call.start n op k a f) (words (now (directory .entry)) (now (tasks .entry)) (now (chunks .entry)) (now (entries .entry)) (now (values .entry)) (now (marks .entry))) (words (now (directory .entry)) (now (tasks .exit)) (now (chunks .entry)) (now (entries .entry)) (now (values .entry)) (now (marks .entry))) r ⌝ }
+    ensures { λ r. ⌜ Promise limits (Call.start n op k a f) (wordsLent directory tasks chunks entries values marks) (wordsLeft directory tasks chunks entries values marks) r ⌝ }
 {
     calls::start(
         Directory::sizes(),
@@ -70,7 +70,7 @@ pub fn step(
     marks: &mut [u64],
     n: u64,
 ) -> Report
-    ensures { λ r. ⌜ Promise limits (Call.step n) (words (now (directory .entry)) (now (tasks .entry)) (now (chunks .entry)) (now (entries .entry)) (now (values .entry)) (now (marks .entry))) (words (now (directory .entry)) (now (tasks .exit)) (now (chunks .exit)) (now (entries .exit)) (now (values .exit)) (now (marks .exit))) r ⌝ }
+    ensures { λ r. ⌜ Promise limits (Call.step n) (wordsLent directory tasks chunks entries values marks) (wordsLeft directory tasks chunks entries values marks) r ⌝ }
 {
     calls::step(
         Directory::sizes(),
@@ -94,7 +94,7 @@ pub fn begin(
     marks: &[u64],
     k: u64,
 ) -> Report
-    ensures { λ r. ⌜ Promise limits (Call.begin k) (words (now (directory .entry)) (now (tasks .entry)) (now (chunks .entry)) (now (entries .entry)) (now (values .entry)) (now (marks .entry))) (words (now (directory .exit)) (now (tasks .entry)) (now (chunks .exit)) (now (entries .entry)) (now (values .entry)) (now (marks .entry))) r ⌝ }
+    ensures { λ r. ⌜ Promise limits (Call.begin k) (wordsLent directory tasks chunks entries values marks) (wordsLeft directory tasks chunks entries values marks) r ⌝ }
 {
     calls::begin(
         Directory::sizes(),
@@ -117,7 +117,7 @@ pub fn rebalance(
     values: &[u64],
     marks: &[u64],
 ) -> Report
-    ensures { λ r. ⌜ Promise limits (Call.rebalance) (words (now (directory .entry)) (now (tasks .entry)) (now (chunks .entry)) (now (entries .entry)) (now (values .entry)) (now (marks .entry))) (words (now (directory .exit)) (now (tasks .entry)) (now (chunks .exit)) (now (entries .exit)) (now (values .entry)) (now (marks .entry))) r ⌝ }
+    ensures { λ r. ⌜ Promise limits (Call.rebalance) (wordsLent directory tasks chunks entries values marks) (wordsLeft directory tasks chunks entries values marks) r ⌝ }
 {
     calls::go_on(
         Directory::sizes(),

@@ -22,7 +22,8 @@ use Rattle.rules.specs.Tables.{Tables}
 use Rattle.rules.specs.Stages.{apply, applyLink}
 use Rattle.laws.proofs.Tests.{picked}
 use Rattle.laws.proofs.Lists.{set-keeps}
-use Rattle.facts.specs.Facts.{Limited, listed, Tabled, Waits, Allowed, Tasked}
+use Rattle.statements.specs.Sound.{Limited}
+use Rattle.facts.specs.Facts.{listed, Tabled, Waits, Allowed, Tasked}
 use Rattle.facts.proofs.Writes.{Written, nothing-written, slot-written, name-written}
 use Rattle.facts.proofs.Linking.{after-written, after-linked, head-written, head-linked}
 

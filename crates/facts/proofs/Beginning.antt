@@ -18,13 +18,14 @@ use Rattle.rules.specs.declared.ChunkNo.{ChunkNo}
 use Rattle.rules.specs.declared.EntryNo.{EntryNo}
 use Rattle.rules.specs.Words.{pick, NONE, chunkNo, noChunk, unused, live, new, retired, idle, toDrain, toCopy, toSwap, toRelease}
 use Rattle.rules.specs.Tables.{Tables, chunkAt, entryAt, chunk, task}
-use Rattle.rules.specs.Walks.{locate}
+use Rattle.rules.specs.Walks.{locate, InRange}
 use Rattle.rules.specs.Rebalance.{Outcome, unusedCount, publishedOn, frozenOf, begins, drains}
 use Rattle.laws.specs.Counts.{Every}
 use Rattle.laws.proofs.Tests.{picked}
-use Rattle.views.specs.Views.{Links, InRange}
+use Rattle.views.specs.Views.{Links}
 use Rattle.views.proofs.Rows.{chunk-put}
-use Rattle.facts.specs.Facts.{Limited, RowRight, ListRight, listed, Chained, KeyInRange, Roles, Rebalancing, Tabled, Same, Tasked, Kept}
+use Rattle.statements.specs.Sound.{Limited}
+use Rattle.facts.specs.Facts.{RowRight, ListRight, listed, Chained, KeyInRange, Roles, Rebalancing, Tabled, Same, Tasked, Kept}
 use Rattle.facts.proofs.Sames.{same-put, range-kept, chained-kept, Quiet, quiet-keys, tasked-kept, list-quiet}
 use Rattle.facts.proofs.Writes.{inside, same-chunk}
 use Rattle.facts.proofs.Going.{located}

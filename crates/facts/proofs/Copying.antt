@@ -9,6 +9,9 @@ use native.Mathlib.Omega.{arith}
 use lib.Dec.{eqb, ltb, leb}
 use lib.ListN.{length, getD, set, take, drop, length-take, length-drop}
 use borrow.Author.Tests.{leb-true, leb-false}
+use Rattle.rules.specs.Walks.{InRange}
+use Rattle.rules.specs.Map.{Ascends}
+use Rattle.views.specs.Copies.{entryKey, filled}
 use Rattle.rules.specs.declared.Sizes.{Sizes}
 use Rattle.rules.specs.declared.Directory.{Directory}
 use Rattle.rules.specs.declared.Task.{Task}
@@ -22,12 +25,12 @@ use Rattle.rules.specs.Rebalance.{Outcome, unusedCount, unusedFrom, namingFrom,
 use Rattle.rules.specs.Shape.{numbers}
 use Rattle.laws.specs.Counts.{Every}
 use Rattle.laws.proofs.Tests.{picked}
-use Rattle.views.specs.Views.{Links, InRange}
-use Rattle.views.specs.Copies.{Rising, filled}
+use Rattle.views.specs.Views.{Links}
 use Rattle.views.proofs.Copies.{fill-is}
 use Rattle.views.proofs.Entries.{links-length}
 use Rattle.views.proofs.Naming.{naming-rising, naming-length, naming-every, rising-above, rising-take, rising-drop, rising-from, rising-grows, take-below, getD-in, every-take, every-drop, unused-first, unused-next}
-use Rattle.facts.specs.Facts.{Limited, ListRight, listed, Roles, Made, Rebalancing, Tabled, Tasked, Kept}
+use Rattle.statements.specs.Sound.{Limited}
+use Rattle.facts.specs.Facts.{ListRight, listed, Roles, Made, Rebalancing, Tabled, Tasked, Kept}
 use Rattle.facts.proofs.Numbers.{number-in, number-none}
 use Rattle.facts.proofs.Putting.{Based, based-of}
 use Rattle.facts.proofs.Making.{newRow, made-other, made-here, made-range, made-keys, made-list, made-task, based-made}
@@ -61,7 +64,7 @@ module _ (z : Sizes) (lim : Limited z) (s : Tables) (kept : Kept z s) (copying :
   pub small : chunk s old .used ≤ z .entries
   small = h .lists old old-in .row .used
 
-  pub l-rising : Rising 0 l
+  pub l-rising : Ascends entryKey 0 l
   l-rising = naming-rising z (s .entries) old (chunk s old .used) small (lim .entries) (z .entries) 0 (chunk s old .head) (listed z (s .chunks) (s .entries) old) links
 
   pub l-short : length l ≤ z .entries
@@ -220,7 +223,7 @@ module _ (z : Sizes) (lim : Limited z) (s : Tables) (kept : Kept z s) (copying :
     pub l₂-short : length l₂ ≤ z .entries
     l₂-short = rw length-drop (omega (arith, l-short))
 
-    pub l₂-rising : Rising 0 l₂
+    pub l₂-rising : Ascends entryKey 0 l₂
     l₂-rising = rising-from least 0 l₂ (rising-drop 0 half l inner l-rising) (λ x m. omega arith)
 
     abbrev cs₁ : List Chunk
@@ -241,7 +244,7 @@ module _ (z : Sizes) (lim : Limited z) (s : Tables) (kept : Kept z s) (copying :
     pub h₂ : Every (λ x. numbers (z .handles) (x .handle .0) ≡ true) l₂
     h₂ = every-drop (λ x. numbers (z .handles) (x .handle .0) ≡ true) half l l-handles
 
-    pub r₁ : Rising 0 l₁
+    pub r₁ : Ascends entryKey 0 l₁
     r₁ = rising-take 0 half l l-rising
 
     pub base₁ : Based z (s .directory .first) cs₁ es₁

@@ -1,27 +1,29 @@
 -- Live chunks cover all keys, by the facts.
-use Prim.Native.Nat.{ℕ}
+use Prim.Native.Nat.{ℕ, _<_}
 use mathlib.Core.Path.{_≡_, sym, ap, _∙_}
-use mathlib.Core.List.{List, [], _∷_, map, List·Memᴰ}
+use mathlib.Core.Logic.{_↔_}
+use mathlib.Core.List.{List, [], _∷_, List·Memᴰ}
 use Rattle.rules.specs.declared.Sizes.{Sizes}
 use Rattle.rules.specs.declared.Entry.{Entry}
 use Rattle.rules.specs.declared.ChunkNo.{ChunkNo}
 use Rattle.rules.specs.declared.EntryNo.{EntryNo}
 use Rattle.rules.specs.Words.{live}
 use Rattle.rules.specs.Tables.{Tables, chunk, entry, entryAt}
-use Rattle.rules.specs.Walks.{locate, linked}
-use Rattle.views.specs.Views.{Links, InRange, chain}
+use Rattle.rules.specs.Walks.{locate, linked, InRange, chain}
+use Rattle.rules.specs.Map.{Ascends}
+use Rattle.views.specs.Views.{Links}
 use Rattle.views.proofs.Entries.{links-one}
 use Rattle.views.proofs.Chunks.{chain-view, chain-live, chain-one}
-use Rattle.facts.specs.Facts.{Limited, Chained, Kept}
-use Rattle.facts.specs.RangesCover.{Live, Ascending, RangesCover}
+use Rattle.statements.specs.Sound.{Limited, Live}
+use Rattle.facts.specs.Facts.{Chained, Kept}
 use Rattle.facts.proofs.Shapes.{chain-short}
 use Rattle.facts.proofs.Going.{located}
-use Rattle.facts.proofs.Reaching.{reached-kept}
 
-links-ascending : (z : Sizes) (es : List Entry) (c : ChunkNo) (used k : ℕ) (e : EntryNo) (l : List EntryNo) → Links z es c used k e l → Ascending k (map (λ e. entryAt z es c e .key) l)
-unfolding Links Ascending
-links-ascending z es c used k e [] h = tt
-links-ascending z es c used k e (x ∷ l) h = (h .2, links-ascending z es c used _ _ l (h .3))
+-- the keys of a list ascend
+links-ascend : (z : Sizes) (es : List Entry) (c : ChunkNo) (used k : ℕ) (e : EntryNo) (l : List EntryNo) → Links z es c used k e l → Ascends (λ e. entryAt z es c e .key) k l
+unfolding Links Ascends
+links-ascend z es c used k e [] h = tt
+links-ascend z es c used k e (x ∷ l) h = (h .2, links-ascend z es c used _ _ l (h .3))
 
 module _ (z : Sizes) (lim : Limited z) (s : Tables) (kept : Kept z s) where
   c : Chained z (s .directory .first) (s .chunks)
@@ -42,6 +44,12 @@ module _ (z : Sizes) (lim : Limited z) (s : Tables) (kept : Kept z s) where
   of-chain : (f : ChunkNo) → List·Memᴰ f (s .directory .first ∷ c .rest) → Live z s f
   of-chain f m = let at = chain-live z (s .chunks) 0 (s .directory .first) (s .directory .first ∷ c .rest) (c .chain) f m in record { numbered = at .0; isLive = at .1 }
 
+  pub chain-holds : (f : ChunkNo) → Live z s f ↔ List·Memᴰ f (chain z s)
+  chain-holds f = (λ l. rw chain-is (in-chain f l), λ m. of-chain f (rw chain-is at m))
+
+  pub lists-ascend : (f : ChunkNo) → f .0 < z .chunks → Ascends (λ e. entry z s f e .key) 0 (linked z s f)
+  lists-ascend f b = links-ascend z (s .entries) f (chunk s f .used) 0 (chunk s f .head) (linked z s f) (kept .tables .lists f b .links)
+
   -- one key lies in one live chunk's range, and is one entry's in its list
   pub rows-one : (f g : ChunkNo) (x y : EntryNo) → Live z s f → Live z s g → List·Memᴰ x (linked z s f) → List·Memᴰ y (linked z s g) → entry z s f x .key ≡ entry z s g y .key → (f ≡ g) × (x ≡ y)
   rows-one f g x y lf lg m n keys = (chunks, links-one z (s .entries) f (chunk s f .used) 0 (chunk s f .head) x y (linked z s f) (kept .tables .lists f (lf .numbered) .links) m (rw chunks n) (keys ∙ ap (λ (g : ChunkNo). entry z s g y .key) (sym chunks)))
@@ -51,13 +59,3 @@ module _ (z : Sizes) (lim : Limited z) (s : Tables) (kept : Kept z s) where
 
       chunks : f ≡ g
       chunks = only (entry z s f x .key) f lf (within f lf x m) ∙ sym (only (entry z s f x .key) g lg (rw keys (within g lg y n)))
-
-pub ranges-cover : (z : Sizes) → Limited z → RangesCover z
-ranges-cover z lim =
-    record {
-      covered = λ s r. covers z lim s (reached-kept z lim r);
-      alone = λ s r. only z lim s (reached-kept z lim r);
-      ascending = λ s r f b. links-ascending z (s .entries) f (chunk s f .used) 0 (chunk s f .head) (linked z s f) (reached-kept z lim r .tables .lists f b .links);
-      within = λ s r f l. reached-kept z lim r .tables .key-in-range f (l .numbered) (l .isLive);
-      chained = λ s r f. (λ l. rw (chain-is z lim s (reached-kept z lim r)) (in-chain z lim s (reached-kept z lim r) f l), λ m. of-chain z lim s (reached-kept z lim r) f (rw (chain-is z lim s (reached-kept z lim r)) at m));
-    }

@@ -21,7 +21,8 @@ use Rattle.rules.specs.Stages
 use Rattle.rules.specs.Shape.{numbers, hold, flagAs, fitsOperation}
 use Rattle.laws.proofs.EachStage.{each-stage}
 use Rattle.laws.proofs.Tests.{picked}
-use Rattle.facts.specs.Facts.{Limited, Tabled, Holds, holdAt, EntryHeld, Tasked}
+use Rattle.statements.specs.Sound.{Limited}
+use Rattle.facts.specs.Facts.{Tabled, Holds, holdAt, EntryHeld, Tasked}
 use Rattle.facts.proofs.Numbers.{number-in, number-none}
 use Rattle.facts.proofs.Operations.{throughout, implies}
 use Rattle.facts.proofs.Going
@@ -69,7 +70,7 @@ module _ (z : Sizes) (lim : Limited z) (s : Tables) (h : Tabled z (s .directory)
 
   clears-fine : (t .stage ≡ 14) ⊎ (t .stage ≡ 20) → Fine z s (Stages.swaps z s t noHandle)
   clears-fine (inl e) = rw e (swapped 14 1 0 2 1 noHandle e (omega arith) (omega arith) refl refl refl refl refl (number-none (z .handles)))
-  clears-fine (inr e) = rw e (swapped 20 1 0 0 0 noHandle e (omega arith) (omega arith) refl refl refl refl refl (number-none (z .handles)))
+  clears-fine (inr e) = rw e (swapped 20 3 0 0 0 noHandle e (omega arith) (omega arith) refl refl refl refl refl (number-none (z .handles)))
 
   -- ---- 12, 15 unpublish
   ended : (n : ℕ) (why answer : Report) → t .stage ≡ n → n ≢ 0 → throughout 8 (λ op. implies (fitsOperation op n and true) (fitsOperation op 1)) ≡ true → Fine z s (pick (Stages.swapFailed z s t) (Stages.restarts t why) (Stages.finishes write.Nothing answer))

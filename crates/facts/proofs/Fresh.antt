@@ -7,6 +7,7 @@ use mathlib.Core.List.{List, [], _∷_, List·Memᴰ, List·Memᴰ·head, List·
 use native.Mathlib.Nat.{le-refl}
 use native.Mathlib.Omega.{arith}
 use lib.ListN.{length, getD, set, replicate, length-replicate, length-set}
+use Rattle.rules.specs.Walks.{InRange}
 use Rattle.rules.specs.declared.Sizes.{Sizes}
 use Rattle.rules.specs.declared.Directory.{Directory}
 use Rattle.rules.specs.declared.Task.{Task}
@@ -20,10 +21,11 @@ use Rattle.rules.specs.Rebalance.{withStatus}
 use Rattle.rules.specs.Shape.{liveCount}
 use Rattle.rules.specs.Calls.{fresh}
 use Rattle.laws.specs.Counts.{Every}
-use Rattle.views.specs.Views.{Links, Chain, InRange}
+use Rattle.views.specs.Views.{Links, Chain}
 use Rattle.views.proofs.Rows.{chunk-put, live-set, one}
 use Rattle.views.proofs.Entries.{links-view}
-use Rattle.facts.specs.Facts.{Limited, RowRight, SlotRight, ListRight, listed, Chained, Roles, Rebalancing, Tabled, Tasked, Kept}
+use Rattle.statements.specs.Sound.{Limited}
+use Rattle.facts.specs.Facts.{RowRight, SlotRight, ListRight, listed, Chained, Roles, Rebalancing, Tabled, Tasked, Kept}
 use Rattle.facts.proofs.Numbers.{number-none}
 
 -- every row of such a table is the one, past its end too

@@ -18,14 +18,15 @@ use Rattle.rules.specs.declared.ChunkNo.{ChunkNo}
 use Rattle.rules.specs.declared.EntryNo.{EntryNo}
 use Rattle.rules.specs.Words.{pick, NONE, chunkNo, entryNo, noEntry, unused, live, new}
 use Rattle.rules.specs.Tables.{chunkAt, entryAt, row}
-use Rattle.rules.specs.Walks.{placeFrom}
+use Rattle.rules.specs.Walks.{placeFrom, InRange}
 use Rattle.rules.specs.Stages.{withNext, withHead}
 use Rattle.rules.specs.Shape.{numbers}
 use Rattle.laws.specs.Counts.{Every}
-use Rattle.views.specs.Views.{Links, putIn, startOf, InRange}
+use Rattle.views.specs.Views.{Links, putIn, startOf}
 use Rattle.views.proofs.Rows.{chunk-put, entry-put}
 use Rattle.views.proofs.Entries.{links-length, links-view, links-put, start-kept, start-new, place-in, put-new, put-old, put-cases}
-use Rattle.facts.specs.Facts.{Limited, RowRight, SlotRight, ListRight, listed, Tabled, Same, Waits}
+use Rattle.statements.specs.Sound.{Limited}
+use Rattle.facts.specs.Facts.{RowRight, SlotRight, ListRight, listed, Tabled, Same, Waits}
 use Rattle.facts.proofs.Numbers.{number-in, head-right}
 use Rattle.facts.proofs.Sames.{same-all, same-put, Quiet, Grown, tabled-kept, tasked-kept, list-quiet}
 use Rattle.facts.proofs.Writes.{Written, below, inside, same-chunk}

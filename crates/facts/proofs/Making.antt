@@ -9,6 +9,9 @@ use native.Mathlib.Omega.{arith}
 use lib.Dec.{eqb, ltb}
 use lib.ListN.{length, getD, set, length-set}
 use borrow.Author.Tests.{ltb-true, ltb-false}
+use Rattle.rules.specs.Walks.{InRange}
+use Rattle.rules.specs.Map.{Ascends}
+use Rattle.views.specs.Copies.{entryKey, upFrom, filled}
 use Rattle.rules.specs.declared.Sizes.{Sizes}
 use Rattle.rules.specs.declared.Task.{Task}
 use Rattle.rules.specs.declared.Chunk.{Chunk}
@@ -20,11 +23,11 @@ use Rattle.rules.specs.Tables.{emptyChunk, emptyEntry, chunkAt, entryAt}
 use Rattle.rules.specs.Shape.{numbers}
 use Rattle.laws.specs.Counts.{Every}
 use Rattle.laws.proofs.Tests.{by-test}
-use Rattle.views.specs.Views.{Links, InRange}
-use Rattle.views.specs.Copies.{upFrom, Rising, filled}
+use Rattle.views.specs.Views.{Links}
 use Rattle.views.proofs.Copies.{filled-length, filled-other, filled-links, filled-rows, filled-every}
 use Rattle.views.proofs.Entries.{links-length, links-view}
-use Rattle.facts.specs.Facts.{Limited, RowRight, SlotRight, ListRight, listed, ChunkOfKey, Tasked}
+use Rattle.statements.specs.Sound.{Limited}
+use Rattle.facts.specs.Facts.{RowRight, SlotRight, ListRight, listed, ChunkOfKey, Tasked}
 use Rattle.facts.proofs.Numbers.{number-none}
 use Rattle.facts.proofs.Putting.{Based, based-put, put-here, put-other, put-task, put-range, put-keys}
 
@@ -34,7 +37,7 @@ newRow min l = record { status = new; frozen = 0; min = min; next = noChunk; hea
 
 module _ (z : Sizes) (lim : Limited z) (first : ChunkNo) (cs : List Chunk) (es : List Entry) (h : Based z first cs es)
     (c : ChunkNo) (min : ℕ) (l : List Entry) (b : c .0 < z .chunks) (empty : chunkAt cs c .status ≡ unused) (short : length l ≤ z .entries)
-    (rising : Rising 0 l) (handles : Every (λ x. numbers (z .handles) (x .handle .0) ≡ true) l) where
+    (rising : Ascends entryKey 0 l) (handles : Every (λ x. numbers (z .handles) (x .handle .0) ≡ true) l) where
   abbrev pub madeChunks : List Chunk
   madeChunks = set cs (c .0) (newRow min l)
 

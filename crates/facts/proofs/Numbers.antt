@@ -40,6 +40,9 @@ held-one how size n le ne h = ltb-true n size (rw (one) at h)
     one : how ≡ 1
     one = omega (arith, not-zero)
 
+pub held-always : (how size n : ℕ) → eqb how 3 ≡ true → heldAs how size n ≡ true → n < size
+held-always how size n e h = ltb-true n size (rw (eqb-true how 3 e) at h)
+
 -- a list's head is a used entry, or none
 pub head-right : (z : Sizes) (es : List Entry) (c : ChunkNo) (used : ℕ) → used ≤ z .entries → (k : ℕ) (e : EntryNo) (l : List EntryNo) → Links z es c used k e l → numbers (z .entries) (e .0) ≡ true
 unfolding Links

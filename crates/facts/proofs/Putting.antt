@@ -9,6 +9,7 @@ use native.Mathlib.Omega.{arith}
 use lib.Dec.{eqb}
 use lib.ListN.{length, getD, set, length-set}
 use borrow.Author.Tests.{ne-eqb}
+use Rattle.rules.specs.Walks.{InRange}
 use Rattle.rules.specs.declared.Sizes.{Sizes}
 use Rattle.rules.specs.declared.Directory.{Directory}
 use Rattle.rules.specs.declared.Task.{Task}
@@ -20,11 +21,12 @@ use Rattle.rules.specs.Words.{pick, NONE, live, retired}
 use Rattle.rules.specs.Tables.{chunkAt, entryAt}
 use Rattle.rules.specs.Shape.{liveCount}
 use Rattle.laws.specs.Counts.{Every}
-use Rattle.views.specs.Views.{Links, Chain, InRange}
+use Rattle.views.specs.Views.{Links, Chain}
 use Rattle.views.proofs.Rows.{chunk-put, live-set, one}
 use Rattle.views.proofs.Entries.{links-below}
 use Rattle.views.proofs.Chunks.{chain-frame, chain-live, chain-next}
-use Rattle.facts.specs.Facts.{Limited, ListRight, listed, Chained, KeyInRange, Tabled, ChunkOfKey, EntryHeld, Tasked}
+use Rattle.statements.specs.Sound.{Limited}
+use Rattle.facts.specs.Facts.{ListRight, listed, Chained, KeyInRange, Tabled, ChunkOfKey, EntryHeld, Tasked}
 use Rattle.facts.proofs.Sames.{list-quiet}
 use Rattle.facts.proofs.Writes.{same-chunk}
 

@@ -25,7 +25,8 @@ use Rattle.views.specs.Views.{Links}
 use Rattle.views.specs.Copies.{cleared}
 use Rattle.views.proofs.Copies.{clears-is, cleared-length, cleared-other, cleared-here}
 use Rattle.views.proofs.Entries.{links-view}
-use Rattle.facts.specs.Facts.{Limited, RowRight, ListRight, listed, Roles, Rebalancing, Tabled, Tasked, Kept}
+use Rattle.statements.specs.Sound.{Limited}
+use Rattle.facts.specs.Facts.{RowRight, ListRight, listed, Roles, Rebalancing, Tabled, Tasked, Kept}
 use Rattle.facts.proofs.Numbers.{number-none}
 use Rattle.facts.proofs.Writes.{same-chunk}
 use Rattle.facts.proofs.Putting.{Based, based-of, based-put, put-here, put-other, put-task}

@@ -7,6 +7,7 @@ use mathlib.Core.List.{List, [], _∷_, List·Memᴰ}
 use native.Mathlib.Nat.{le-trans}
 use native.Mathlib.Omega.{arith}
 use lib.ListN.{length, getD, set, length-set}
+use Rattle.rules.specs.Walks.{InRange}
 use Rattle.rules.specs.declared.Sizes.{Sizes}
 use Rattle.rules.specs.declared.Directory.{Directory}
 use Rattle.rules.specs.declared.Task.{Task}
@@ -20,11 +21,12 @@ use Rattle.rules.specs.Tables.{chunkAt, entryAt}
 use Rattle.rules.specs.Rebalance.{unusedCount}
 use Rattle.rules.specs.Shape.{liveCount}
 use Rattle.laws.specs.Counts.{Every}
-use Rattle.views.specs.Views.{Links, Chain, InRange}
+use Rattle.views.specs.Views.{Links, Chain}
 use Rattle.views.proofs.Rows.{chunk-put, live-set, unused-set, one}
 use Rattle.views.proofs.Entries.{links-below, links-length, links-view, links-frame}
 use Rattle.views.proofs.Chunks.{chain-frame}
-use Rattle.facts.specs.Facts.{Limited, RowRight, SlotRight, ListRight, listed, Chained, KeyInRange, Roles, Made, Rebalancing, Tabled, Same, Holds, holdAt, ChunkOfKey, EntryHeld, Tasked, Kept}
+use Rattle.statements.specs.Sound.{Limited}
+use Rattle.facts.specs.Facts.{RowRight, SlotRight, ListRight, listed, Chained, KeyInRange, Roles, Made, Rebalancing, Tabled, Same, Holds, holdAt, ChunkOfKey, EntryHeld, Tasked, Kept}
 
 pub same-all : (cs : List Chunk) → Same cs cs
 same-all cs = record { sized = refl; live = refl; unused = refl; status = λ c. refl; min = λ c. refl; next = λ c. refl }

@@ -1,4 +1,4 @@
--- Tables of which the facts hold have document 01's shape.
+-- Tables of which the facts hold, and in which a remove past its mark holds a deleted handle, have document 01's shape.
 use Prim.Native.Nat.{ℕ, zero, suc, _+_, _*_, _≤_, _<_}
 use mathlib.Core.Path.{_≡_, refl, sym, ap, _∙_, subst}
 use mathlib.Core.Logic.{_⊎_, inl, inr, ⊎-elim, ⊎-map, _≢_}
@@ -10,6 +10,7 @@ use lib.Dec.{eqb, ltb, leb}
 use lib.ListN.{length, getD, take, drop, length-take, length-drop}
 use lib.Seq.{getD-take, getD-drop}
 use borrow.Author.Tests.{lt-ltb, le-ltb, le-leb, lt-leb, eq-eqb, ne-eqb, ltb-true, ltb-false, leb-true, leb-false, eqb-true, eqb-false}
+use Rattle.rules.specs.Walks.{InRange}
 use Rattle.rules.specs.declared.Sizes.{Sizes}
 use Rattle.rules.specs.declared.Directory.{Directory}
 use Rattle.rules.specs.declared.Task.{Task}
@@ -18,17 +19,18 @@ use Rattle.rules.specs.declared.Entry.{Entry}
 use Rattle.rules.specs.declared.ChunkNo.{ChunkNo}
 use Rattle.rules.specs.declared.EntryNo.{EntryNo}
 use Rattle.rules.specs.Words.{pick, _and_, _or_, NONE, chunkNo, entryNo, unused, live, new, retired, usesFunction, idle, toDrain, toCopy, toSwap, toRelease}
-use Rattle.rules.specs.Tables.{Tables, idleTask, emptyChunk, emptyEntry, chunkAt, entryAt, chunk, entry, task}
+use Rattle.rules.specs.Tables.{Tables, idleTask, emptyChunk, emptyEntry, chunkAt, entryAt, chunk, entry, mark, task}
 use Rattle.rules.specs.Rebalance.{unusedCount}
-use Rattle.rules.specs.Shape.{each, slotsOf, isNone, numbers, isEmptyEntry, isEmptyChunk, heldAs, flagAs, fitsOperation, Hold, hold, stageList, liveCount, chainCount, shape, sized, chunkRight, slotRight, chunkNumbers, chained, taskRight, holdsRight, holdsEntry, chunkFits, rebalanceFits, linkedFrom, ascendsFrom, beforeCopy, afterCopy}
+use Rattle.rules.specs.Shape.{each, slotsOf, isNone, numbers, isEmptyEntry, isEmptyChunk, heldAs, flagAs, fitsOperation, Hold, hold, stageList, liveCount, chainCount, markAs, shape, sized, chunkRight, slotRight, chunkNumbers, chained, taskRight, holdsRight, holdsEntry, chunkFits, rebalanceFits, linkedFrom, ascendsFrom, beforeCopy, afterCopy}
 use Rattle.laws.specs.Counts.{Every, all}
 use Rattle.laws.proofs.Tests.{picked, by-test, both, and-left, and-right, or-cases, or-left, or-right}
 use Rattle.laws.proofs.Lists.{each-by, all-at, row-within}
-use Rattle.views.specs.Views.{Links, Chain, InRange}
+use Rattle.views.specs.Views.{Links, Chain}
 use Rattle.views.proofs.Entries.{links-length, links-ascends, links-linked}
 use Rattle.views.proofs.Chunks.{chain-count, chain-live}
-use Rattle.facts.proofs.Numbers.{held-one, head-right}
-use Rattle.facts.specs.Facts.{Limited, RowRight, SlotRight, ListRight, listed, Chained, Roles, Rebalancing, Tabled, Holds, holdAt, EntryHeld, Tasked, Kept}
+use Rattle.facts.proofs.Numbers.{held-one, held-always, head-right}
+use Rattle.statements.specs.Sound.{Limited}
+use Rattle.facts.specs.Facts.{RowRight, SlotRight, ListRight, listed, Chained, Roles, Rebalancing, Tabled, Holds, holdAt, EntryHeld, Tasked, MarksHeld, Kept}
 
 live-count-le : (cs : List Chunk) → liveCount cs ≤ length cs
 unfolding liveCount
@@ -44,7 +46,7 @@ rows-right : all (λ h. leb (h .chunk) 1 and leb (h .entry) (h .chunk)) stageLis
 unfolding all
 rows-right = refl
 
-module _ (z : Sizes) (lim : Limited z) (s : Tables) (kept : Kept z s) where
+module _ (z : Sizes) (lim : Limited z) (s : Tables) (kept : Kept z s) (deleted : MarksHeld z s) where
   tables : Tabled z (s .directory) (s .chunks) (s .entries)
   tables = kept .tables
 
@@ -214,8 +216,11 @@ module _ (z : Sizes) (lim : Limited z) (s : Tables) (kept : Kept z s) where
           held : eqb (h .entry) 0 ≡ false → EntryHeld z (s .chunks) (s .entries) (t .chunk) (t .entry) (t .key) (t .stage)
           held e = kept .tasks n .entry (held-one (h .entry) (z .entries) (t .entry .0) (le-trans entry-row chunk-row) e (w .entry))
 
+      marked : Holds z t h → markAs (h .old) (mark s (t .old)) ≡ true
+      marked w = picked (λ (b : Bool). b ≡ true) (eqb (h .old) 3) (λ e. eq-eqb _ _ (deleted n e (held-always (h .old) (z .handles) (t .old .0) e (w .old)))) (λ _. refl)
+
       busy : Holds z t h → (fitsOperation (t .operation) (t .stage) and pick (usesFunction (t .operation)) (leb 1 (t .function) and leb (t .function) 3) true and holdsRight z s t h) ≡ true
-      busy w = both _ _ (w .fits) (both _ _ (w .function) (both _ _ (w .chunk) (both _ _ (w .entry) (both _ _ (w .old) (both _ _ (w .new) (both _ _ (w .published) (both _ _ (w .swapped) (both _ _ (in-use w) (there w)))))))))
+      busy w = both _ _ (w .fits) (both _ _ (w .function) (both _ _ (w .chunk) (both _ _ (w .entry) (both _ _ (w .old) (both _ _ (w .new) (both _ _ (w .published) (both _ _ (w .swapped) (both _ _ (marked w) (both _ _ (in-use w) (there w))))))))))
 
   pub has-shape : shape z s ≡ true
   unfolding shape

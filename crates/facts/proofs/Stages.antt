@@ -22,15 +22,16 @@ use Rattle.rules.specs.declared.Write.{Write}
 use Rattle.rules.specs.declared.Write.the-variants as write
 use Rattle.rules.specs.Words.{pick, _and_, _or_, NONE, noChunk, noEntry, noHandle, entryNo, unused, live, new, retired, usesFunction, inserts, get, put, putIfAbsent, compute, remove}
 use Rattle.rules.specs.Tables.{Tables, idleTask, withTasks, chunkAt, entryAt, chunk, entry, mark}
-use Rattle.rules.specs.Walks.{locate, find, place, lowestFree, firstPresent}
+use Rattle.rules.specs.Walks.{locate, find, place, lowestFree, firstPresent, InRange}
 use Rattle.rules.specs.Stages
 use Rattle.rules.specs.Shape.{numbers, heldAs, flagAs, fitsOperation}
 use Rattle.laws.specs.Counts.{Every}
 use Rattle.laws.proofs.Tests.{picked, by-test, both, or-cases}
-use Rattle.views.specs.Views.{Links, InRange}
+use Rattle.views.specs.Views.{Links}
 use Rattle.views.proofs.Entries.{links-length, find-hit, find-miss, links-below}
 use Rattle.views.proofs.Chunks.{chain-locate, chain-live}
-use Rattle.facts.specs.Facts.{Limited, ListRight, listed, Chained, Tabled, Holds, holdAt, ChunkOfKey, EntryHeld, Tasked, Waits, Allowed}
+use Rattle.statements.specs.Sound.{Limited}
+use Rattle.facts.specs.Facts.{ListRight, listed, Chained, Tabled, Holds, holdAt, ChunkOfKey, EntryHeld, Tasked, Waits, Allowed}
 use Rattle.facts.proofs.Numbers.{number-in, number-none, number-cases}
 use Rattle.facts.proofs.Operations.{throughout, implies, fits-move}
 use Rattle.facts.proofs.Shapes.{chain-short}

@@ -19,7 +19,8 @@ use Rattle.rules.specs.Rebalance.{withStatus, liveBefore, withNextChunk, hasSec
 use Rattle.rules.specs.Shape.{liveCount}
 use Rattle.laws.proofs.Tests.{picked}
 use Rattle.views.proofs.Rows.{live-set, one}
-use Rattle.facts.specs.Facts.{Limited, Rebalancing, Kept}
+use Rattle.statements.specs.Sound.{Limited}
+use Rattle.facts.specs.Facts.{Rebalancing, Kept}
 use Rattle.facts.proofs.Swapping
 use Rattle.facts.proofs.Swapping.{Swapped, newOnes, beforeOld}
 

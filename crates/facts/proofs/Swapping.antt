@@ -19,14 +19,15 @@ use Rattle.rules.specs.declared.ChunkNo.{ChunkNo}
 use Rattle.rules.specs.declared.EntryNo.{EntryNo}
 use Rattle.rules.specs.Words.{pick, NONE, chunkNo, noChunk, unused, live, new, retired, toCopy, toSwap, toRelease}
 use Rattle.rules.specs.Tables.{Tables, chunkAt, entryAt, chunk, task, withDirectory, withChunks}
-use Rattle.rules.specs.Walks.{beforeFrom}
+use Rattle.rules.specs.Walks.{beforeFrom, InRange}
 use Rattle.rules.specs.Rebalance.{withStatus, liveBefore, withNextChunk}
 use Rattle.rules.specs.Shape.{numbers, liveCount}
 use Rattle.laws.specs.Counts.{Every, Apart}
 use Rattle.laws.proofs.Tests.{picked, by-test}
-use Rattle.views.specs.Views.{Links, Chain, InRange, replaced}
+use Rattle.views.specs.Views.{Links, Chain, replaced}
 use Rattle.views.proofs.Chunks.{chain-live, chain-frame, chain-swap, chain-swap-first, chain-raise, chain-apart, chain-rises, before-next, replaced-new, replaced-old, replaced-length}
-use Rattle.facts.specs.Facts.{Limited, RowRight, ListRight, listed, Chained, KeyInRange, Roles, Made, Rebalancing, Tabled, ChunkOfKey, EntryHeld, Tasked, Kept}
+use Rattle.statements.specs.Sound.{Limited}
+use Rattle.facts.specs.Facts.{RowRight, ListRight, listed, Chained, KeyInRange, Roles, Made, Rebalancing, Tabled, ChunkOfKey, EntryHeld, Tasked, Kept}
 use Rattle.facts.proofs.Numbers.{number-in, number-cases}
 use Rattle.facts.proofs.Shapes.{chain-short}
 use Rattle.facts.proofs.Sames.{list-quiet}

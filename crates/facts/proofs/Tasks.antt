@@ -28,7 +28,8 @@ use Rattle.rules.specs.Calls.{started, starts, steps}
 use Rattle.rules.specs.Shape.{fitsOperation}
 use Rattle.laws.proofs.Tests.{picked, by-test, both, or-left, or-right}
 use Rattle.laws.proofs.Lists.{set-keeps}
-use Rattle.facts.specs.Facts.{Limited, Tabled, Holds, holdAt, Tasked, Kept}
+use Rattle.statements.specs.Sound.{Limited}
+use Rattle.facts.specs.Facts.{Tabled, Holds, holdAt, Tasked, Kept}
 use Rattle.facts.proofs.Operations.{throughout, implies, through}
 use Rattle.facts.proofs.Applying.{Applied, applied-by}
 use Rattle.facts.proofs.Going.{Fine, no-chunk, no-entry}
@@ -86,7 +87,7 @@ module _ (z : Sizes) (lim : Limited z) (s : Tables) (kept : Kept z s) where
     started-right =
         record {
           idle = λ q. absurd (picked (λ n. n ≡ 0 → ⊥) (eqb op scan) (λ _. scans) (λ _. one) q);
-          holds = λ _. picked (λ n. fitsOperation op n ≡ true → Holds z (record { stage = n; operation = op; function = pick (usesFunction op) f 0; key = k; argument = pick (eqb op get or eqb op remove) 0 a; chunk = noChunk; entry = noEntry; old = noHandle; new = noHandle; published = 0; swapped = 0 }) (holdAt n)) (eqb op scan)
+          holds = λ _. picked (λ n. fitsOperation op n ≡ true → Holds z (Stages.keeps (started z s op k a f) n) (holdAt n)) (eqb op scan)
               (λ _ fits. record { fits = fits; function = started-function; chunk = refl; entry = refl; old = refl; new = refl; published = refl; swapped = refl })
               (λ _ fits. record { fits = fits; function = started-function; chunk = refl; entry = refl; old = refl; new = refl; published = refl; swapped = refl }) started-fits;
           chunk-of-key = no-chunk z lim s (kept .tables) _;

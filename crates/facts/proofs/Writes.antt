@@ -25,7 +25,8 @@ use Rattle.laws.specs.Counts.{Every}
 use Rattle.views.specs.Views.{Links}
 use Rattle.views.proofs.Rows.{chunk-put, entry-put}
 use Rattle.views.proofs.Entries.{links-below}
-use Rattle.facts.specs.Facts.{Limited, RowRight, SlotRight, ListRight, listed, Tabled, Same, EntryHeld, Tasked}
+use Rattle.statements.specs.Sound.{Limited}
+use Rattle.facts.specs.Facts.{RowRight, SlotRight, ListRight, listed, Tabled, Same, EntryHeld, Tasked}
 use Rattle.facts.proofs.Numbers.{number-in, number-none, head-right}
 use Rattle.facts.proofs.Sames.{same-all, same-put, Quiet, tabled-kept, tasked-kept, list-quiet}
 

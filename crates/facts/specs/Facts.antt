@@ -16,20 +16,12 @@ use Rattle.rules.specs.declared.EntryNo.{EntryNo}
 use Rattle.rules.specs.declared.Write.{Write}
 use Rattle.rules.specs.declared.Write.the-variants as write
 use Rattle.rules.specs.Words.{pick, _and_, NONE, noEntry, unused, live, new, retired, usesFunction, idle, toDrain, toCopy, toSwap, toRelease}
-use Rattle.rules.specs.Tables.{Tables, idleTask, emptyChunk, emptyEntry, chunkAt, entryAt, task}
-use Rattle.rules.specs.Walks.{listFrom, placeFrom}
+use Rattle.rules.specs.Tables.{Tables, idleTask, emptyChunk, emptyEntry, chunkAt, entryAt, mark, task}
+use Rattle.rules.specs.Walks.{listFrom, placeFrom, InRange}
 use Rattle.rules.specs.Rebalance.{unusedCount}
 use Rattle.rules.specs.Shape.{numbers, heldAs, flagAs, fitsOperation, Hold, hold, stageList, liveCount}
 use Rattle.laws.specs.Counts.{Every}
-use Rattle.views.specs.Views.{Links, Chain, InRange}
-
--- sizes for which none is no number of a row, there is a first chunk, and half of a full chunk is an entry at least
-pub record Limited (z : Sizes) : Type 0 where
-  pub some : 1 ≤ z .chunks
-  pub two : 2 ≤ z .entries
-  pub chunks : z .chunks ≤ NONE
-  pub entries : z .entries ≤ NONE
-  pub handles : z .handles ≤ NONE
+use Rattle.views.specs.Views.{Links, Chain}
 
 -- ---- a chunk with its slots
 pub record RowRight (z : Sizes) (x : Chunk) : Type 0 where
@@ -145,6 +137,10 @@ pub record Tasked (z : Sizes) (cs : List Chunk) (es : List Entry) (t : Task) : T
   pub holds : t .stage ≢ 0 → Holds z t (holdAt (t .stage))
   pub chunk-of-key : t .chunk .0 < z .chunks → ChunkOfKey z cs (t .chunk) (t .key)
   pub entry : t .entry .0 < z .entries → EntryHeld z cs es (t .chunk) (t .entry) (t .key) (t .stage)
+
+-- where the stage list says a deleted handle, the old handle's mark is 1
+abbrev pub MarksHeld : Sizes → Tables → Type 0
+MarksHeld z s = (n : ℕ) → eqb (holdAt (task s n .stage) .old) 3 ≡ true → task s n .old .0 < z .handles → mark s (task s n .old) ≡ 1
 
 -- an entry that waits, and its place in a chunk's list that lacks its key
 pub record Waits (z : Sizes) (cs : List Chunk) (es : List Entry) (c : ChunkNo) (e before : EntryNo) (k : ℕ) : Type 0 where

@@ -1,5 +1,2 @@
 pub mod Facts
 pub mod Reached
-pub mod ShapeHolds
-pub mod RangesCover
-pub mod Simulates

@@ -4,35 +4,41 @@ use mathlib.Core.Path.{_≡_, refl, sym, ap, _∙_, subst}
 use mathlib.Core.Logic.{_⊎_, inl, inr, ⊎-elim, _≢_}
 use mathlib.Core.Bool.{Bool, true, false}
 use mathlib.Core.List.{List, [], _∷_}
+use native.Mathlib.Decide.{ℕ-discrete, decLt}
 use native.Mathlib.Omega.{arith}
 use lib.Dec.{eqb, ltb, leb}
 use lib.ListN.{length, getD, set, take, drop}
+use lib.Seq.{getD-set-same, getD-set-other, set-out}
 use borrow.Author.Tests.{leb-false, eqb-true}
 use Rattle.rules.specs.declared.Sizes.{Sizes}
 use Rattle.rules.specs.declared.Directory.{Directory}
 use Rattle.rules.specs.declared.Task.{Task}
 use Rattle.rules.specs.declared.Entry.{Entry}
 use Rattle.rules.specs.declared.ChunkNo.{ChunkNo}
+use Rattle.rules.specs.declared.EntryNo.{EntryNo}
+use Rattle.rules.specs.declared.HandleNo.{HandleNo}
+use Rattle.rules.specs.declared.Write.{Write}
+use Rattle.rules.specs.declared.Write.the-variants as write
 use Rattle.rules.specs.declared.Decision.{Decision}
-use Rattle.rules.specs.Words.{pick, _and_, _or_, NONE, noChunk, usesFunction, scan, idle, toDrain, toCopy, toSwap, toRelease}
-use Rattle.rules.specs.Tables.{Tables, idleTask, emptyChunk, emptyEntry, chunk, task, putTask, putChunk, withDirectory}
+use Rattle.rules.specs.Words.{pick, _and_, _or_, NONE, entryNo, noChunk, noEntry, noHandle, usesFunction, scan, idle, toDrain, toCopy, toSwap, toRelease}
+use Rattle.rules.specs.Tables.{Tables, idleTask, emptyChunk, emptyEntry, row, chunk, entry, task, putTask, putChunk, withDirectory}
 use Rattle.rules.specs.Stages
 use Rattle.rules.specs.Rebalance.{Outcome, unusedCount, unusedFrom, publishedOn, heldChunk, namingFrom, makes, fill, at, clears, begins, drains, copies, swapsIn, releases, rebalanceDoes}
 use Rattle.rules.specs.Calls.{Call, started, starts, steps, does, calls}
 use Rattle.rules.specs.Calls.Call.{start, step, begin, rebalance}
 use Rattle.laws.proofs.Tests.{picked}
 use Rattle.views.proofs.Copies.{fill-is, clears-is}
-use Rattle.facts.specs.Facts.{Limited, Kept}
-use Rattle.facts.specs.Reached.{Reached}
+use Rattle.statements.specs.Runs.{tablesAt}
+use Rattle.statements.specs.Sound.{Limited, HoldsHandle, HandsOut}
+use Rattle.facts.specs.Facts.{Kept}
 use Rattle.facts.proofs.SwapIn.{swap-by}
 use Rattle.facts.proofs.Applying.{Applied, applied-by}
 use Rattle.facts.proofs.Going.{Fine}
 use Rattle.facts.proofs.Ends.{decides-fine}
-use Rattle.facts.proofs.Reaching.{calls-does, reached-kept}
+use Rattle.facts.proofs.Reaching.{call-by, reached-kept, run-reached}
 use Rattle.handles.specs.Owned.{Unnamed}
-use Rattle.handles.specs.NeverHandedOut.{HoldsHandle, HandsOut, HeldThrough, NoneHandsOut, NeverHandedOut}
 use Rattle.handles.proofs.Naming.{Passes, put}
-use Rattle.handles.proofs.Passing.{Passed, decides-pass}
+use Rattle.handles.proofs.Passing.{NamesRight, Passed, decides-pass}
 use Rattle.handles.proofs.Owning.{put-tasks}
 
 module _ (z : Sizes) (s : Tables) where
@@ -132,23 +138,83 @@ module _ (z : Sizes) (lim : Limited z) (s : Tables) (kept : Kept z s) where
   does-turns (begin k) = same-turns (begins z s k .tables) (begin-tasks z s k .0)
   does-turns rebalance = same-turns (does z s rebalance .tables) (rebalance-tasks z s .0)
 
-  pub none-hands-out : (n h : ℕ) → h < z .handles → HoldsHandle s n h → (c : Call) (m : ℕ) → HandsOut z s c m h → ⊥
-  none-hands-out n h b holds c m out = go (does-turns c m)
+  -- no task takes a handle that some task holds
+  none-takes : (c : Call) (n h : ℕ) → h < z .handles → (task s n .old .0 ≡ h) ⊎ (task s n .new .0 ≡ h) → (m : ℕ) → task s m .new .0 ≢ h → task (calls z s c .tables) m .new .0 ≢ h
+  none-takes c n h b holds m was = call-by z s c (λ x. task x m .new .0 ≢ h) was (λ then. go then (does-turns c m))
     where
-      then-new : task (does z s c .tables) m .new .0 ≡ h
-      then-new = rw (calls-does z lim s kept c) at (out .1)
-
       none : h ≡ NONE → ⊥
       none e = omega (arith, lim .handles)
 
-      go : (task (does z s c .tables) m ≡ task s m) ⊎ Passes z (s .entries) (task s) (task s m) (task (does z s c .tables) m) → ⊥
-      go (inl e) = out .0 (sym (ap (λ (t : Task). t .new .0) e) ∙ then-new)
-      go (inr p) = ⊎-elim (λ e. none (sym then-new ∙ e)) (λ q. ⊎-elim (λ e. out .0 (sym (e .0) ∙ then-new)) (λ e. ⊎-elim (λ o. e .1 n .0 (o ∙ sym then-new)) (λ o. e .1 n .1 (o ∙ sym then-new)) holds) q) (p .new)
+      go : task (does z s c .tables) m .new .0 ≡ h → (task (does z s c .tables) m ≡ task s m) ⊎ Passes z (s .entries) (task s) (task s m) (task (does z s c .tables) m) → ⊥
+      go then (inl e) = was (sym (ap (λ (t : Task). t .new .0) e) ∙ then)
+      go then (inr p) = ⊎-elim (λ e. none (sym then ∙ e)) (λ q. ⊎-elim (λ e. was (sym (e .0) ∙ then)) (λ e. ⊎-elim (λ o. e .1 n .0 (o ∙ sym then)) (λ o. e .1 n .1 (o ∙ sym then)) holds) q) (p .new)
 
-through : (z : Sizes) → Limited z → (n h : ℕ) → h < z .handles → (l : List Call) (s : Tables) → Reached z s → HeldThrough z h n s l → NoneHandsOut z h s l
-unfolding HeldThrough NoneHandsOut
-through z lim n h b [] s r held = tt
-through z lim n h b (c ∷ l) s r held = (λ m. none-hands-out z lim s (reached-kept z lim r) n h b (held .0) c m, through z lim n h b l (calls z s c .tables) (Reached.called r c) (held .1))
+-- ---- which handle a row names after a step's write
+-- a row of a list after another, or itself, was written
+put-either : (l : List Entry) (i r : ℕ) (x : Entry) → (getD (set l i x) r emptyEntry ≡ x) ⊎ (getD (set l i x) r emptyEntry ≡ getD l r emptyEntry)
+put-either l i r x = elim (ℕ-discrete r i) [ yes e ↦ elim (decLt i (length l)) [ yes b ↦ inl (rw e (getD-set-same l i x emptyEntry b)) | no out ↦ inr (rw (set-out l i x (omega arith))) ] | no ne ↦ inr (getD-set-other l i r x emptyEntry ne) ]
 
-pub never-handed-out : (z : Sizes) → Limited z → NeverHandedOut z
-never-handed-out z lim = record { never = λ s r n h b l held. through z lim n h b l s r held }
+-- a row written with the handle that it names
+same-named : (l : List Entry) (i r : ℕ) (x : Entry) → x .handle ≡ getD l i emptyEntry .handle → getD (set l i x) r emptyEntry .handle ≡ getD l r emptyEntry .handle
+same-named l i r x e = elim (ℕ-discrete r i) [ yes q ↦ elim (decLt i (length l)) [ yes b ↦ rw (q, getD-set-same l i x emptyEntry b) e | no out ↦ rw (set-out l i x (omega arith)) ] | no ne ↦ ap (λ (y : Entry). y .handle) (getD-set-other l i r x emptyEntry ne) ]
+
+module _ (z : Sizes) (t t′ : Task) (s : Tables) (r : ℕ) where
+  abbrev named : Tables → HandleNo
+  named x = getD (x .entries) r emptyEntry .handle
+
+  -- the same as before, none, or the task's new one
+  abbrev Names : Tables → Type 0
+  Names x = (named x ≡ named s) ⊎ ((named x .0 ≡ NONE) ⊎ (named x .0 ≡ t .new .0))
+
+  write-names : (w : Write) → NamesRight z t t′ w → Names (Stages.apply z s w)
+  write-names write.Nothing m = inl refl
+  write-names (write.Slot c k) m = ⊎-elim (λ e. inr (inl (ap (λ (y : Entry). y .handle .0) e))) (λ e. inl (ap (λ (y : Entry). y .handle) e)) (put-either (s .entries) (row z c (entryNo (chunk s c .used))) r (record { key = k; handle = noHandle; next = noEntry }))
+  write-names (write.Link c e before) m =
+      picked Names (ltb (before .0) (z .entries))
+      (λ _. inl (same-named (linked (entry z s c before .next)) (row z c before) r (Stages.withNext (entry z s c before) e) (sym (keeps (entry z s c before .next) (row z c before))) ∙ keeps (entry z s c before .next) r))
+      (λ _. inl (keeps (chunk s c .head) r))
+    where
+      linked : EntryNo → List Entry
+      linked n = set (s .entries) (row z c e) (Stages.withNext (entry z s c e) n)
+
+      keeps : (n : EntryNo) (j : ℕ) → getD (linked n) j emptyEntry .handle ≡ getD (s .entries) j emptyEntry .handle
+      keeps n j = same-named (s .entries) (row z c e) j (Stages.withNext (entry z s c e) n) refl
+  write-names (write.Fresh h) m = inl refl
+  write-names (write.Store h v) m = inl refl
+  write-names (write.Delete h) m = inl refl
+  write-names (write.Name c e h) m = ⊎-elim (λ q. inr (there q (m .1))) (λ q. inl (ap (λ (y : Entry). y .handle) q)) (put-either (s .entries) (row z c e) r (Stages.withHandle (entry z s c e) h))
+    where
+      put : Tables
+      put = Stages.apply z s (write.Name c e h)
+
+      there : getD (set (s .entries) (row z c e) (Stages.withHandle (entry z s c e) h)) r emptyEntry ≡ Stages.withHandle (entry z s c e) h → (NONE ≡ h .0) ⊎ ((h .0 ≡ t .new .0) × (t .new .0 < z .handles) × (t .swapped ≡ 0) × (t′ .swapped ≡ 1)) → (named put .0 ≡ NONE) ⊎ (named put .0 ≡ t .new .0)
+      there q (inl o) = inl (ap (λ (y : Entry). y .handle .0) q ∙ sym o)
+      there q (inr o) = inr (ap (λ (y : Entry). y .handle .0) q ∙ o .0)
+
+module _ (z : Sizes) (lim : Limited z) (s : Tables) (kept : Kept z s) where
+  -- a step names no handle that its task did not hold
+  none-names : (n h : ℕ) → h < z .handles → ((task s n .old .0 ≡ h) ⊎ (task s n .new .0 ≡ h) → ⊥) → (c : ChunkNo) (e : EntryNo) → entry z s c e .handle .0 ≢ h → entry z (calls z s (step n) .tables) c e .handle .0 ≢ h
+  unfolding does
+  none-names n h b lacks c e was =
+      call-by z s (step n) (λ x. entry z x c e .handle .0 ≢ h) was
+      (picked Q (leb (z .tasks) n) (λ _. was) (λ _. picked Q (eqb (task s n .stage) 0) (λ _. was)
+      (λ _ then. ⊎-elim (λ q. was (sym (ap (λ (h : HandleNo). h .0) q) ∙ then)) (⊎-elim (λ q. none (sym then ∙ q)) (λ q. lacks (inr (sym q ∙ then)))) (write-names z (task s n) (x .task) (putTask s n (x .task)) (row z c e) (x .write) (decides-pass z lim s (kept .tables) n (kept .tasks n) .names)))))
+    where
+      x : Decision
+      x = Stages.decide z s (task s n)
+
+      none : h ≡ NONE → ⊥
+      none q = omega (arith, lim .handles)
+
+      Q : Outcome → Type 0
+      Q o = entry z (o .tables) c e .handle .0 ≢ h
+
+module _ (z : Sizes) (lim : Limited z) (run : ℕ → Call) where
+  pub never-handed-out : (i n h : ℕ) → h < z .handles → HoldsHandle z run n h i → HandsOut z run h i → ⊥
+  unfolding tablesAt
+  never-handed-out i n h b holds (HandsOut.takes m was then) = none-takes z lim (tablesAt z run i) (reached-kept z lim (run-reached z run i)) (run i) n h b holds m was then
+  never-handed-out i n h b holds (HandsOut.names m own lacks c e was then) = none-names z lim (tablesAt z run i) (reached-kept z lim (run-reached z run i)) m h b lacks c e was (ap (λ (x : Call). entry z (calls z (tablesAt z run i) x .tables) c e .handle .0) (sym own) ∙ then)
+
+  -- so from the moment at which a task came to hold it, through all calls over which it holds it
+  pub never-since : (j i n h : ℕ) → h < z .handles → ((x : ℕ) → j ≤ x → x ≤ i → HoldsHandle z run n h x) → (x : ℕ) → j ≤ x → x ≤ i → HandsOut z run h x → ⊥
+  never-since j i n h b holds x from to = never-handed-out x n h b (holds x from to)

@@ -12,16 +12,15 @@ use Rattle.rules.specs.declared.HandleNo.{HandleNo}
 use Rattle.rules.specs.Words.{NONE}
 use Rattle.rules.specs.Tables.{Tables, idleTask, emptyEntry, chunk, entryAt, entry, row}
 use Rattle.rules.specs.Calls.{Call, fresh, calls}
-use Rattle.facts.specs.Facts.{Limited, Kept}
+use Rattle.statements.specs.Sound.{Limited, Live, InUse}
+use Rattle.facts.specs.Facts.{Kept}
 use Rattle.rules.specs.Walks.{linked}
 use Rattle.facts.specs.Reached.{Reached}
-use Rattle.facts.specs.RangesCover.{Live}
 use Rattle.facts.proofs.Writes.{inside}
 use Rattle.facts.proofs.Covering.{rows-one}
 use Rattle.facts.proofs.Fresh.{getD-all}
-use Rattle.facts.proofs.Reaching.{calls-does, reached-kept}
-use Rattle.handles.specs.OneKeyEach.{OneKeyEach}
-use Rattle.handles.specs.LiveOnce.{LiveOnce}
+use Rattle.facts.proofs.Reaching.{call-by, reached-kept}
+use Rattle.handles.specs.Owned.{NamedUnder}
 use Rattle.handles.proofs.Owning.{OwnedBy, does-owned}
 
 module _ (z : Sizes) (lim : Limited z) where
@@ -34,22 +33,30 @@ module _ (z : Sizes) (lim : Limited z) where
       row-none : (c : ChunkNo) (e : EntryNo) → entryAt z (replicate (z .chunks * z .entries) emptyEntry) c e .handle .0 ≡ NONE
       row-none c e = ap (λ x. x .handle .0) (getD-all (z .chunks * z .entries) (row z c e) emptyEntry)
 
-  call-owned : (s : Tables) → Kept z s → OwnedBy z s → (c : Call) → OwnedBy z (calls z s c .tables)
-  call-owned s k own c = rw (calls-does z lim s k c) (does-owned z lim s k own c)
-
   pub reached-owned : {s : Tables} → Reached z s → OwnedBy z s
   reached-owned Reached.started = fresh-owned
-  reached-owned (Reached.called {s = s′} r c) = call-owned s′ (reached-kept z lim r) (reached-owned r) c
+  reached-owned (Reached.called {s = s′} r c) = call-by z s′ c (OwnedBy z) (reached-owned r) (does-owned z lim s′ (reached-kept z lim r) (reached-owned r) c)
 
-  pub one-key-each : OneKeyEach z
-  one-key-each = record { one-key = λ s r c d e f x y b q. let k = reached-kept z lim r in reached-owned r .one-key _ _ _ b (record { chunk = c; entry = e; row = record { chunk = x .numbered; entry = le-trans (x .entry) (k .tables .lists c (x .numbered) .row .used) }; names = refl; keyed = refl }) (record { chunk = d; entry = f; row = record { chunk = y .numbered; entry = le-trans (y .entry) (k .tables .lists d (y .numbered) .row .used) }; names = ap (λ (h : HandleNo). h .0) (sym q); keyed = refl }) }
+  module _ (s : Tables) (r : Reached z s) where
+    kept : Kept z s
+    kept = reached-kept z lim r
 
-  -- the two entries have one key
-  pub live-once : LiveOnce z
-  live-once = record { once = λ s r c d e f lc ld m n b q. rows-one z lim s (reached-kept z lim r) c d e f lc ld m n (keys s r c d e f lc ld m n b q) }
-    where
-      keys : (s : Tables) → Reached z s → (c d : ChunkNo) (e f : EntryNo) → Live z s c → Live z s d → List·Memᴰ e (linked z s c) → List·Memᴰ f (linked z s d) → entry z s c e .handle .0 < z .handles → entry z s c e .handle ≡ entry z s d f .handle → entry z s c e .key ≡ entry z s d f .key
-      keys s r c d e f lc ld m n b q = reached-owned r .one-key (entry z s c e .handle .0) (entry z s c e .key) (entry z s d f .key) b (record { chunk = c; entry = e; row = record { chunk = lc .numbered; entry = used c lc e m }; names = refl; keyed = refl }) (record { chunk = d; entry = f; row = record { chunk = ld .numbered; entry = used d ld f n }; names = ap (λ (h : HandleNo). h .0) (sym q); keyed = refl })
-        where
-          used : (g : ChunkNo) → Live z s g → (x : EntryNo) → List·Memᴰ x (linked z s g) → x .0 < z .entries
-          used g l x o = inside z lim (s .directory) (s .chunks) (s .entries) (reached-kept z lim r .tables) g (l .numbered) x o
+    named : (c : ChunkNo) (e : EntryNo) → c .0 < z .chunks → e .0 < z .entries → NamedUnder z (s .entries) (entry z s c e .handle .0) (entry z s c e .key)
+    named c e b d = record { chunk = c; entry = e; row = record { chunk = b; entry = d }; names = refl; keyed = refl }
+
+    -- rows that name one handle have one key
+    one-key : (c d : ChunkNo) (e f : EntryNo) → c .0 < z .chunks → e .0 < z .entries → d .0 < z .chunks → f .0 < z .entries → entry z s c e .handle .0 < z .handles → entry z s c e .handle ≡ entry z s d f .handle → entry z s c e .key ≡ entry z s d f .key
+    one-key c d e f b i b′ i′ h q = reached-owned r .one-key (entry z s c e .handle .0) (entry z s c e .key) (entry z s d f .key) h (named c e b i) (rw (q) (named d f b′ i′))
+
+    pub one-key-each : (c d : ChunkNo) (e f : EntryNo) → InUse z s c e → InUse z s d f → entry z s c e .handle .0 < z .handles → entry z s c e .handle ≡ entry z s d f .handle → entry z s c e .key ≡ entry z s d f .key
+    one-key-each c d e f x y = one-key c d e f (x .numbered) (used c e x) (y .numbered) (used d f y)
+      where
+        used : (c : ChunkNo) (e : EntryNo) → InUse z s c e → e .0 < z .entries
+        used c e x = le-trans (x .entry) (kept .tables .lists c (x .numbered) .row .used)
+
+    -- live-once: a handle is named by at most one linked entry of the live chunks
+    pub live-once : (c d : ChunkNo) (e f : EntryNo) → Live z s c → Live z s d → List·Memᴰ e (linked z s c) → List·Memᴰ f (linked z s d) → entry z s c e .handle .0 < z .handles → entry z s c e .handle ≡ entry z s d f .handle → (c ≡ d) × (e ≡ f)
+    live-once c d e f lc ld m n h q = rows-one z lim s kept c d e f lc ld m n (one-key c d e f (lc .numbered) (used c e lc m) (ld .numbered) (used d f ld n) h q)
+      where
+        used : (c : ChunkNo) (e : EntryNo) → Live z s c → List·Memᴰ e (linked z s c) → e .0 < z .entries
+        used c e l = inside z lim (s .directory) (s .chunks) (s .entries) (kept .tables) c (l .numbered) e

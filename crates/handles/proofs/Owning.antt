@@ -29,7 +29,8 @@ use Rattle.views.specs.Copies.{filled, cleared}
 use Rattle.views.proofs.Rows.{entry-put}
 use Rattle.views.proofs.Naming.{naming-every, every-take, every-drop}
 use Rattle.views.proofs.Copies.{fill-is, clears-is, filled-length, filled-other, filled-rows, cleared-other, cleared-here}
-use Rattle.facts.specs.Facts.{Limited, Tabled, Waits, Allowed, Kept}
+use Rattle.statements.specs.Sound.{Limited}
+use Rattle.facts.specs.Facts.{Tabled, Waits, Allowed, Kept}
 use Rattle.rules.specs.Rebalance.{Outcome, unusedCount, publishedOn, heldChunk, namingFrom, unusedFrom, makes, at, clears, begins, drains, copies, swapsIn, releases, rebalanceDoes}
 use Rattle.rules.specs.Calls.{Call, started, starts, steps, does}
 use Rattle.rules.specs.Calls.Call.{start, step, begin, rebalance}

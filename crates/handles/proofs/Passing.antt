@@ -17,7 +17,8 @@ use Rattle.rules.specs.Walks.{lowestFree}
 use Rattle.rules.specs.Stages
 use Rattle.laws.proofs.EachStage.{each-stage}
 use Rattle.laws.proofs.Tests.{picked}
-use Rattle.facts.specs.Facts.{Limited, Tabled, Holds, holdAt, Tasked}
+use Rattle.statements.specs.Sound.{Limited}
+use Rattle.facts.specs.Facts.{Tabled, Holds, holdAt, Tasked}
 use Rattle.facts.proofs.Numbers.{holding}
 use Rattle.handles.specs.Owned.{Row}
 use Rattle.handles.proofs.Naming.{Passes}

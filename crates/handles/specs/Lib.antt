@@ -1,4 +1,1 @@
 pub mod Owned
-pub mod OneKeyEach
-pub mod LiveOnce
-pub mod NeverHandedOut

@@ -6,6 +6,8 @@ use mathlib.Core.Bool.{true, false, false≢true}
 use mathlib.Core.List.{List}
 use mathlib.Core.Option.{some}
 use native.Mathlib.Nat.{not-suc-le-zero, le-refl}
+use native.Mathlib.Omega.{arith}
+use borrow.Author.Tests.{eqb-true}
 use Rattle.rules.specs.declared.Sizes.{Sizes}
 use Rattle.rules.specs.declared.Task.{Task}
 use Rattle.rules.specs.declared.Decision.{Decision}
@@ -14,25 +16,28 @@ use Rattle.rules.specs.declared.Report.the-variants as report
 use Rattle.rules.specs.Words.{_and_, _or_, scan}
 use Rattle.rules.specs.Tables.{Tables, task, value}
 use Rattle.rules.specs.Stages
+use Rattle.rules.specs.Shape.{fitsOperation}
 use Rattle.rules.specs.Rebalance.{Outcome}
 use Rattle.rules.specs.Calls.{Call, calls}
 use Rattle.rules.specs.Calls.Call.{step}
-use Rattle.rules.specs.Map.{Pair, lookup}
+use Rattle.rules.specs.Map.{Pair, lookup, sequential}
 use Rattle.map.proofs.Sequential.{on-absent, on-present}
-use Rattle.facts.specs.Facts.{Limited}
-use Rattle.facts.specs.Simulates.{decides, changeAnswer}
+use Rattle.statements.specs.Sound.{Limited}
+use Rattle.statements.specs.Runs.{decides, tablesAt, mapAt, reportAt, taskAt, DecidesAt, Working}
+use Rattle.simulation.specs.Beside.{changeAnswer}
 use Rattle.simulation.proofs.Living.{reached-lively}
-use Rattle.simulation.proofs.Simulating.{beside-holds}
-use Rattle.history.specs.Runs.{tablesAt, mapAt, reportAt, taskAt, DecidesAt, Working}
-use Rattle.history.specs.Answers.{isAnswer, NeverDecides, ByChange, ByLooking, AnswersAsMap}
+use Rattle.simulation.proofs.Simulating.{beside-holds, beside-shows}
+use Rattle.rules.specs.Told.{isAnswer}
+use Rattle.statements.specs.Answers.{NeverDecides, ByChange, ByLooking, AnswersAsMap}
+use Rattle.facts.proofs.Reaching.{reached-kept, run-reached}
 use Rattle.history.specs.Turns.{Steps, Turn}
 use Rattle.history.specs.Goes.{past, ending, Ends, Goes}
 use Rattle.history.specs.Ghosts.{Ghost, WasAbsent}
-use Rattle.history.proofs.Runs.{run-beside, run-reached, run-turns, row-next, begun}
+use Rattle.history.proofs.Runs.{run-beside, run-turns, row-next, begun}
 use Rattle.history.proofs.Shown.{holds-old}
 use Rattle.history.proofs.Stepping.{decides-goes}
 use Rattle.history.proofs.Ghosts as ghosts
-use Rattle.history.proofs.Ghosts.{asked, never-on, change-on, change-here, ghost}
+use Rattle.history.proofs.Ghosts.{asked, never-on, change-on, changes-here, change-here, ghost}
 
 -- an answer and refusal 9 are ends, and no answer is a refusal
 answer-ends : (r : Report) → isAnswer r ≡ true → ending r ≡ false → ⊥
@@ -43,6 +48,10 @@ nine-ends r e q = false≢true (sym q ∙ ap ending e)
 
 nine-no-answer : (r : Report) → r ≡ report.Refused 9 → isAnswer r ≡ true → ⊥
 nine-no-answer r e q = false≢true (ap isAnswer (sym e) ∙ q)
+
+-- a scan's stage decides nothing
+scan-quiet : (z : Sizes) (s : Tables) (t : Task) → fitsOperation (t .operation) (t .stage) ≡ true → t .operation ≡ scan → decides z s t ≡ false
+scan-quiet z s t fits e = rw (eqb-true (t .stage) 22 (rw e at fits)) refl
 
 module _ (z : Sizes) (lim : Limited z) (run : ℕ → Call) where
   -- a call that is a step of a task at work does the step
@@ -74,11 +83,11 @@ module _ (z : Sizes) (lim : Limited z) (run : ℕ → Call) where
 
       go : Turn z s (run i) n → Ended
       go (Turn.begins _ _ _ _ b) = absurd (busy (b .was))
-      go (Turn.steps b) = by b (decides-goes z lim s (run-reached z run lim i) n busy)
+      go (Turn.steps b) = by b (decides-goes z lim s (run-reached z run i) n busy)
       go (Turn.rests b) = gone-on (task s n) (b .row) busy
 
   over : (n i : ℕ) → taskAt z run i n .stage ≢ 0 → run i ≡ step n → (isAnswer (reportAt z run i) ≡ true) ⊎ (reportAt z run i ≡ report.Refused 9) → taskAt z run (suc i) n .stage ≡ 0
-  over n i busy e r = ap (λ (t : Task). t .stage) (row-next z run lim n i ∙ own-step n i busy e .row) ∙ by r (decides-goes z lim s (run-reached z run lim i) n busy)
+  over n i busy e r = ap (λ (t : Task). t .stage) (row-next z run lim n i ∙ own-step n i busy e .row) ∙ by r (decides-goes z lim s (run-reached z run i) n busy)
     where
       s : Tables
       s = tablesAt z run i
@@ -147,10 +156,10 @@ module _ (z : Sizes) (lim : Limited z) (run : ℕ → Call) where
     by-end ne (Ends.present was d l q right) = inr (record { never = never was d; moment = suc i; after = g .stepped (inr l); to = le-refl _; right = sym (asked m op k a f t (g .started) ne) ∙ on-present m (t .operation) (t .key) (t .argument) (t .function) (value s (t .old)) there ∙ right m })
       where
         inside : t .old .0 < z .handles
-        inside = holds-old z lim s (run-reached z run lim (suc i)) n l
+        inside = holds-old z lim s (run-reached z run (suc i)) n l
 
         there : lookup m (t .key) ≡ some (value s (t .old))
-        there = beside-holds z lim (run-beside z run (suc i)) .0 (t .key) (value s (t .old)) .1 (record { handle = t .old .0; inside = inside; named = reached-lively z lim (run-reached z run lim (suc i)) .old-live n inside q; undeleted = q; valued = refl })
+        there = beside-holds z lim (run-beside z run (suc i)) .0 (t .key) (value s (t .old)) .1 (record { handle = t .old .0; inside = inside; named = reached-lively z lim (run-reached z run (suc i)) .old-live n inside q; undeleted = q; valued = refl })
     by-end ne (Ends.absent was d gone right) = inr (record { never = never was d; moment = y .moment; after = y .after; to = y .to; right = sym (asked (mapAt z run (y .moment)) op k a f t (g .started) ne) ∙ on-absent (mapAt z run (y .moment)) (t .operation) (t .key) (t .argument) (t .function) (ap (lookup (mapAt z run (y .moment))) (g .started .key ne) ∙ y .absent) ∙ right (mapAt z run (y .moment)) })
       where
         y : WasAbsent z run n k j (suc i)
@@ -166,23 +175,67 @@ module _ (z : Sizes) (lim : Limited z) (run : ℕ → Call) where
     pub step-answered : op ≢ scan → isAnswer (reportAt z run (suc i)) ≡ true → Answered (reportAt z run (suc i))
     step-answered ne ans = subst Answered (sym reported) (answered-by ne (ap isAnswer (sym reported) ∙ ans) goes)
 
-    refused-by : x .report ≡ report.Refused 9 → Goes z s n x → NeverDecides z run n j (suc i)
-    refused-by r (Goes.on v _ _ _) = absurd (nine-ends (x .report) r (v .quiet))
-    refused-by r (Goes.turns v _ _ _ _ _) = absurd (nine-ends (x .report) r (v .quiet))
-    refused-by r (Goes.answers _ ans _) = absurd (nine-no-answer (x .report) r ans)
-    refused-by r (Goes.refuses _ was d _) = never was d
+    unserved-by : x .report ≡ report.Refused 9 → Goes z s n x → NeverDecides z run n j (suc i)
+    unserved-by r (Goes.on v _ _ _) = absurd (nine-ends (x .report) r (v .quiet))
+    unserved-by r (Goes.turns v _ _ _ _ _) = absurd (nine-ends (x .report) r (v .quiet))
+    unserved-by r (Goes.answers _ ans _) = absurd (nine-no-answer (x .report) r ans)
+    unserved-by r (Goes.refuses _ was d _) = never was d
 
-    pub step-refused : reportAt z run (suc i) ≡ report.Refused 9 → NeverDecides z run n j (suc i)
-    step-refused r = refused-by (sym reported ∙ r) goes
+    pub step-unserved : reportAt z run (suc i) ≡ report.Refused 9 → NeverDecides z run n j (suc i)
+    step-unserved r = unserved-by (sym reported ∙ r) goes
+
+    -- ---- a deciding step, whether the operation ends or not
+    module _ (d : DecidesAt z run n (suc i)) where
+      loud : decides z s t ≡ false → ⊥
+      loud q = false≢true (sym q ∙ d .deciding)
+
+      -- it is the first, and no scan's
+      first-by-end : Ends z s n x → NeverDecides z run n j i × (op ≢ scan)
+      first-by-end (Ends.changes was _ u _) = (before was, λ q. u (g .started .operation ∙ q))
+      first-by-end (Ends.tells _ q _) = absurd (loud q)
+      first-by-end (Ends.present _ q _ _ _) = absurd (loud q)
+      first-by-end (Ends.absent _ q _ _) = absurd (loud q)
+      first-by-end (Ends.scanned q) = absurd (loud (scan-quiet z s t (reached-kept z lim (run-reached z run (suc i)) .tasks n .holds (b .busy) .fits) q))
+
+      first-by : Goes z s n x → NeverDecides z run n j i × (op ≢ scan)
+      first-by (Goes.on _ _ q _) = absurd (loud q)
+      first-by (Goes.turns _ was _ _ u _) = (before was, λ q. u (g .started .operation ∙ q))
+      first-by (Goes.answers _ _ v) = first-by-end v
+      first-by (Goes.refuses _ _ q _) = absurd (loud q)
+
+      pub step-first : NeverDecides z run n j i
+      step-first = first-by goes .0
+
+      pub step-changes : mapAt z run (suc (suc i)) ≡ sequential m op k a f .map
+      step-changes = changes-here z lim run n op k a f j i (g .started) (first-by goes .1) (b .numbered) d
 
   -- the same of any call: the first is no step of a task at work
+  once : (n op k a f j i : ℕ) → Working z run n op k a f j i → DecidesAt z run n i → (x : ℕ) → j < x → x < i → DecidesAt z run n x → ⊥
+  once n op k a f j zero w d x since lt = absurd (not-suc-le-zero lt)
+  once n op k a f j (suc i) w d x since lt = step-first n op k a f j i w (d .own) d x since (omega arith)
+
+  changes : (n op k a f j i : ℕ) → Working z run n op k a f j i → DecidesAt z run n i → mapAt z run (suc i) ≡ sequential (mapAt z run i) op k a f .map
+  changes n op k a f j zero w d = absurd (not-suc-le-zero (w .before))
+  changes n op k a f j (suc i) w d = step-changes n op k a f j i w (d .own) d
+
   answered : (n op k a f j i : ℕ) → Working z run n op k a f j i → op ≢ scan → run i ≡ step n → isAnswer (reportAt z run i) ≡ true → ByChange z run n op k a f j i (reportAt z run i) ⊎ ByLooking z run n op k a f j i (reportAt z run i)
   answered n op k a f j zero w ne e ans = absurd (not-suc-le-zero (w .before))
   answered n op k a f j (suc i) w ne e ans = step-answered n op k a f j i w e ne ans
 
-  refused : (n op k a f j i : ℕ) → Working z run n op k a f j i → run i ≡ step n → reportAt z run i ≡ report.Refused 9 → NeverDecides z run n j i
-  refused n op k a f j zero w e r = absurd (not-suc-le-zero (w .before))
-  refused n op k a f j (suc i) w e r = step-refused n op k a f j i w e r
+  unserved : (n op k a f j i : ℕ) → Working z run n op k a f j i → run i ≡ step n → reportAt z run i ≡ report.Refused 9 → NeverDecides z run n j i
+  unserved n op k a f j zero w e r = absurd (not-suc-le-zero (w .before))
+  unserved n op k a f j (suc i) w e r = step-unserved n op k a f j i w e r
 
-pub answers : (z : Sizes) → Limited z → AnswersAsMap z
-answers z lim = record { begun = λ run n i. begun z run lim n i; ends = ends z lim; over = over z lim; answered = answered z lim; refused = refused z lim }
+  pub answers : AnswersAsMap z run
+  answers =
+      record {
+        shows = λ i. beside-shows z lim (run-beside z run i);
+        ascends = λ i. beside-holds z lim (run-beside z run i) .1;
+        begun = λ n i busy. let b = begun z run lim n i busy in (b .operation, b .key, b .argument, b .function, b .started, b .working);
+        ends = ends;
+        over = over;
+        once = once;
+        changes = changes;
+        answered = answered;
+        unserved = unserved;
+      }

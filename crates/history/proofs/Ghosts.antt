@@ -21,16 +21,17 @@ use Rattle.rules.specs.Rebalance.{Outcome}
 use Rattle.rules.specs.Calls.{Call, started}
 use Rattle.rules.specs.Map.{Pair, Effect, lookup, bySeen, sequential}
 use Rattle.laws.proofs.Tests.{by-test, or-cases, or-left, or-right}
-use Rattle.facts.specs.Facts.{Limited}
-use Rattle.facts.specs.Simulates.{decides, mapThen, changeAnswer}
+use Rattle.statements.specs.Sound.{Limited}
+use Rattle.statements.specs.Runs.{decides, mapThen, tablesAt, mapAt, taskAt, DecidesAt, Working, Stepped}
+use Rattle.simulation.specs.Beside.{changeAnswer}
 use Rattle.simulation.proofs.Deciding.{is-none}
-use Rattle.simulation.proofs.Simulating.{beside-holds, simulates}
-use Rattle.history.specs.Runs.{tablesAt, mapAt, taskAt, DecidesAt, Working, Stepped}
-use Rattle.history.specs.Answers.{NeverDecides, ByChange}
+use Rattle.simulation.proofs.Simulating.{beside-holds, beside-changes}
+use Rattle.statements.specs.Answers.{NeverDecides, ByChange}
+use Rattle.facts.proofs.Reaching.{run-reached}
 use Rattle.history.specs.Turns.{Begins, Steps, Rests, Came}
 use Rattle.history.specs.Goes.{past, looksIn, looksOld, Gone, AbsentIn, Onward, stepped, Follows, Goes}
 use Rattle.history.specs.Ghosts.{Started, WasAbsent, Ghost}
-use Rattle.history.proofs.Runs.{run-beside, run-reached, tables-next, map-next, row-next, came}
+use Rattle.history.proofs.Runs.{run-beside, tables-next, map-next, row-next, came}
 use Rattle.history.proofs.Shown.{gone-back}
 use Rattle.history.proofs.Stepping.{decides-goes}
 
@@ -85,6 +86,20 @@ module _ (z : Sizes) (lim : Limited z) (run : ℕ → Call) (n op k a f j : ℕ)
     pub change-on : {r : Report} → ByChange z run n op k a f j i r → (DecidesAt z run n (suc i) → ⊥) → ByChange z run n op k a f j (suc i) r
     change-on c quiet = record { at = c .at; since = c .since; to = omega (arith, c .to); decides = c .decides; alone = λ x since le d. ⊎-elim (λ e. absurd (quiet (rw e at d))) (λ before. c .alone x since before d) (last x le); changes = c .changes; answers = c .answers }
 
+    -- at a deciding step the map changes by what the operation was started with
+    module _ (st : Started op k a f (taskAt z run (suc i) n)) (ne : op ≢ scan) where
+      abbrev row : Task
+      row = taskAt z run (suc i) n
+
+      abbrev map : List Pair
+      map = mapAt z run (suc i)
+
+      same : sequential map (row .operation) (row .key) (row .argument) (row .function) ≡ sequential map op k a f
+      same = asked map op k a f row st ne
+
+      pub changes-here : n < z .tasks → DecidesAt z run n (suc i) → mapAt z run (suc (suc i)) ≡ sequential map op k a f .map
+      changes-here b d = map-next z run (suc i) ∙ ap (λ (c : Call). mapThen z (tablesAt z run (suc i)) c map) (d .own) ∙ rw (lt-ltb n (z .tasks) b, d .deciding) (ap (λ (y : Effect). y .map) same)
+
     pub change-here : NeverDecides z run n j i → j < suc i → Started op k a f (taskAt z run (suc i) n) → op ≢ scan → n < z .tasks → DecidesAt z run n (suc i) → ByChange z run n op k a f j (suc i) (changeAnswer op)
     change-here never since st ne b d =
         record {
@@ -93,18 +108,9 @@ module _ (z : Sizes) (lim : Limited z) (run : ℕ → Call) (n op k a f j : ℕ)
           to = le-refl _;
           decides = d;
           alone = λ x after le e. ⊎-elim (λ q. q) (λ before. absurd (never x after before e)) (last x le);
-          changes = map-next z run (suc i) ∙ ap (λ (c : Call). mapThen z (tablesAt z run (suc i)) c m) (d .own) ∙ rw (lt-ltb n (z .tasks) b, d .deciding) (ap (λ (y : Effect). y .map) same);
-          answers = ap (λ (y : Effect). y .answer) (sym same) ∙ simulates z lim .changes (tablesAt z run (suc i)) m (run-beside z run (suc i)) n (d .deciding) ∙ ap changeAnswer (st .operation);
+          changes = changes-here st ne b d;
+          answers = ap (λ (y : Effect). y .answer) (sym (same st ne)) ∙ beside-changes z lim (run-beside z run (suc i)) n (d .deciding) ∙ ap changeAnswer (st .operation);
         }
-      where
-        m : List Pair
-        m = mapAt z run (suc i)
-
-        t : Task
-        t = taskAt z run (suc i) n
-
-        same : sequential m (t .operation) (t .key) (t .argument) (t .function) ≡ sequential m op k a f
-        same = asked m op k a f t st ne
 
   -- ---- what is kept, over each call
   abbrev GhostOf : ℕ → Task → Type 0
@@ -158,7 +164,7 @@ module _ (z : Sizes) (lim : Limited z) (run : ℕ → Call) (n op k a f j : ℕ)
           }
         where
           back : Gone z (tablesAt z run (suc (suc i))) t → Gone z s t ⊎ AbsentIn z (tablesAt z run (suc (suc i))) (t .key)
-          back = subst (λ (x : Tables). Gone z x t → Gone z s t ⊎ AbsentIn z x (t .key)) (sym (tables-next z run (suc i))) (gone-back z lim s (run-reached z run lim (suc i)) (run (suc i)) n (b .row))
+          back = subst (λ (x : Tables). Gone z x t → Gone z s t ⊎ AbsentIn z x (t .key)) (sym (tables-next z run (suc i))) (gone-back z lim s (run-reached z run (suc i)) (run (suc i)) n (b .row))
 
     -- ---- a step of the task
     module _ (b : Steps z s (run (suc i)) n) where
@@ -166,7 +172,7 @@ module _ (z : Sizes) (lim : Limited z) (run : ℕ → Call) (n op k a f j : ℕ)
       x = Stages.decide z s t
 
       pub goes : Goes z s n x
-      goes = decides-goes z lim s (run-reached z run lim (suc i)) n (b .busy)
+      goes = decides-goes z lim s (run-reached z run (suc i)) n (b .busy)
 
       own : Stepped z run n j (suc (suc i))
       own = record { at = suc i; since = since; before = omega arith; own = b .call }

@@ -24,17 +24,18 @@ use Rattle.rules.specs.Rebalance.{Outcome, begins}
 use Rattle.rules.specs.Calls.{Call, started, starts, steps, does, calls}
 use Rattle.rules.specs.Calls.Call.{start, step, begin, rebalance}
 use Rattle.laws.proofs.Tests.{picked, or-left, or-right}
-use Rattle.facts.specs.Facts.{Limited, Kept}
+use Rattle.statements.specs.Sound.{Limited}
+use Rattle.facts.specs.Facts.{Kept}
 use Rattle.facts.specs.Reached.{Reached}
-use Rattle.facts.specs.Simulates.{mapThen, Beside}
+use Rattle.statements.specs.Runs.{mapThen, tablesAt, mapAt, taskAt, Working}
+use Rattle.simulation.specs.Beside.{Beside}
 use Rattle.facts.proofs.Fresh.{getD-all}
 use Rattle.facts.proofs.Applying.{applied-by}
 use Rattle.facts.proofs.Ends.{decides-fine}
-use Rattle.facts.proofs.Reaching.{calls-does, reached-kept}
+use Rattle.facts.proofs.Reaching.{reached-kept, run-reached}
+use Rattle.holds.proofs.Shaped.{calls-does}
 use Rattle.handles.proofs.Handing.{rebalance-tasks, begin-tasks}
-use Rattle.simulation.proofs.Simulating.{beside-reached}
-use Rattle.history.specs.Runs.{tablesAt, mapAt, taskAt, Working, Begun}
-use Rattle.history.specs.Turns.{Turn, Came}
+use Rattle.history.specs.Turns.{Turn, Came, Begun}
 
 -- ---- a call's parts
 -- which call it is, the task's number and the numbers started with
@@ -61,7 +62,10 @@ refused-not-moved : (m : ℕ) → report.Refused m ≢ report.Moved
 refused-not-moved m e = eqb-false 0 1 refl (ap (λ (r : Report). told r .number) e)
 
 -- ---- a call and one task's row
-module _ (z : Sizes) (lim : Limited z) (s : Tables) (kept : Kept z s) where
+module _ (z : Sizes) (lim : Limited z) (s : Tables) (r : Reached z s) where
+  kept : Kept z s
+  kept = reached-kept z lim r
+
   -- past the table's size the row is an idle one's
   past-idle : (n : ℕ) → z .tasks ≤ n → task s n .stage ≡ 0
   past-idle n le = rw (List·getD-eq-default (s .tasks) idleTask {n = n} (rw (kept .tasks-sized) le)) refl
@@ -148,7 +152,7 @@ module _ (z : Sizes) (lim : Limited z) (s : Tables) (kept : Kept z s) where
     does-turn rebalance = still rebalance (does z s rebalance) (ap (λ (ts : List Task). getD ts n idleTask) (rebalance-tasks z s .0)) (λ e. absurd (apart refl e)) (λ _ _ _ _ e. absurd (apart refl e))
 
   pub turns : (c : Call) (n : ℕ) → Turn z s c n
-  turns c n = does-turn n c (calls-does z lim s kept c)
+  turns c n = does-turn n c (calls-does z lim s r c)
 
 -- ---- along a run
 module _ (z : Sizes) (run : ℕ → Call) where
@@ -167,14 +171,8 @@ module _ (z : Sizes) (run : ℕ → Call) where
   map-next i = refl
 
   module _ (lim : Limited z) where
-    pub run-reached : (i : ℕ) → Reached z (tablesAt z run i)
-    run-reached i = beside-reached z lim (run-beside i)
-
-    pub run-kept : (i : ℕ) → Kept z (tablesAt z run i)
-    run-kept i = reached-kept z lim (run-reached i)
-
     pub run-turns : (i n : ℕ) → Turn z (tablesAt z run i) (run i) n
-    run-turns i n = turns z lim (tablesAt z run i) (run-kept i) (run i) n
+    run-turns i n = turns z lim (tablesAt z run i) (run-reached z run i) (run i) n
 
     module _ (n : ℕ) where
       pub row-next : (i : ℕ) → taskAt z run (suc i) n ≡ task (calls z (tablesAt z run i) (run i) .tables) n

@@ -18,29 +18,29 @@ use Rattle.rules.specs.declared.ChunkNo.{ChunkNo}
 use Rattle.rules.specs.declared.EntryNo.{EntryNo}
 use Rattle.rules.specs.Words.{pick, noChunk, _and_, _or_, live, retired, usesFunction, scan, idle, toDrain, toCopy, toSwap, toRelease}
 use Rattle.rules.specs.Tables.{Tables, emptyChunk, withTasks, withDirectory, withEntries, chunkAt, chunk, putChunk, entryAt, entry, mark, task}
-use Rattle.rules.specs.Walks.{linked, presentAt}
+use Rattle.rules.specs.Walks.{linked, InRange}
 use Rattle.rules.specs.Stages
 use Rattle.rules.specs.Rebalance.{Outcome, unusedCount, unusedFrom, publishedOn, heldChunk, namingFrom, at, clears, copies, releases, rebalanceDoes}
 use Rattle.rules.specs.Calls.{Call, starts, steps, does, calls}
 use Rattle.rules.specs.Calls.Call.{start, step, begin, rebalance}
 use Rattle.laws.proofs.Tests.{picked, or-cases}
-use Rattle.views.specs.Views.{InRange}
 use Rattle.views.specs.Copies.{filled}
 use Rattle.views.proofs.Copies.{fill-is, clears-is}
 use Rattle.views.proofs.Entries.{links-one}
-use Rattle.facts.specs.Facts.{Limited, Roles, Holds, holdAt, ChunkOfKey, Kept}
+use Rattle.statements.specs.Sound.{Limited, Live}
+use Rattle.facts.specs.Facts.{Roles, Holds, holdAt, ChunkOfKey, Kept}
 use Rattle.facts.specs.Reached.{Reached}
-use Rattle.facts.specs.RangesCover.{Live}
 use Rattle.facts.proofs.Numbers.{holding}
 use Rattle.facts.proofs.Covering.{only}
 use Rattle.facts.proofs.SwapIn.{swap-by}
 use Rattle.facts.proofs.Making.{newRow}
-use Rattle.facts.proofs.Reaching.{calls-does, reached-kept}
+use Rattle.facts.proofs.Reaching.{reached-kept}
+use Rattle.holds.proofs.Shaped.{calls-does}
 use Rattle.handles.proofs.Keys.{reached-owned}
 use Rattle.holds.proofs.Holding.{reached-held}
 use Rattle.holds.proofs.Marks.{reached-marked}
 use Rattle.holds.proofs.Unlinked.{reached-unlinked}
-use Rattle.simulation.specs.Named.{NamedIn, LiveNamed}
+use Rattle.simulation.specs.Named.{presentAt, NamedIn, LiveNamed}
 use Rattle.simulation.proofs.Rows.{RowKept, frame}
 use Rattle.simulation.proofs.Keeping.{reached-copied, kept-to}
 use Rattle.simulation.proofs.Moving.{begin-moves, rebalance-moves}
@@ -144,7 +144,7 @@ module _ (z : Sizes) (lim : Limited z) (s : Tables) (r : Reached z s) where
     does-live rebalance = rebalance-moves z lim s k₀ (reached-owned z lim r) (reached-held z lim r) (reached-unlinked z lim r) (reached-copied z lim r) .0 .to h k i v
 
     call-live : (c : Call) → LiveIn (calls z s c .tables)
-    call-live c = subst (λ (o : Outcome). LiveIn (o .tables)) (sym (calls-does z lim s k₀ c)) (does-live c)
+    call-live c = subst (λ (o : Outcome). LiveIn (o .tables)) (sym (calls-does z lim s r c)) (does-live c)
 
   -- a retired chunk names what it named
   module _ (f : ChunkNo) (b : f .0 < z .chunks) (h k : ℕ) (i : h < z .handles) (v : NamedIn z (s .entries) f h k) where
@@ -209,7 +209,7 @@ module _ (z : Sizes) (lim : Limited z) (s : Tables) (r : Reached z s) where
         Q g = StaysBy (g z s)
 
     call-stays : (c : Call) → Stays (calls z s c .tables)
-    call-stays c = subst StaysBy (sym (calls-does z lim s k₀ c)) (does-stays c)
+    call-stays c = subst StaysBy (sym (calls-does z lim s r c)) (does-stays c)
 
   -- ---- a call that leaves the task's row: where it then shows none it did so before, or the key is absent now
   module _ (c : Call) (n : ℕ) where

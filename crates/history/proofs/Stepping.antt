@@ -25,9 +25,11 @@ use Rattle.rules.specs.Stages
 use Rattle.rules.specs.Map.{Pair, effect, onAbsent}
 use Rattle.laws.proofs.EachStage.{each-stage}
 use Rattle.laws.proofs.Tests.{picked, by-test, or-cases, or-left, or-right}
-use Rattle.facts.specs.Facts.{Limited, Holds, holdAt, EntryHeld, Kept}
+use Rattle.statements.specs.Sound.{Limited}
+use Rattle.facts.specs.Facts.{Holds, holdAt, EntryHeld, Kept}
 use Rattle.facts.specs.Reached.{Reached}
-use Rattle.facts.specs.Simulates.{decides, changeAnswer}
+use Rattle.statements.specs.Runs.{decides}
+use Rattle.simulation.specs.Beside.{changeAnswer}
 use Rattle.facts.proofs.Numbers.{holding}
 use Rattle.facts.proofs.Operations.{fits-test, throughout, implies}
 use Rattle.rules.specs.Shape.{fitsOperation}
@@ -37,7 +39,7 @@ use Rattle.facts.proofs.Reaching.{reached-kept}
 use Rattle.holds.proofs.Marks.{reached-marked}
 use Rattle.holds.proofs.Unlinked.{reached-unlinked}
 use Rattle.simulation.specs.Named.{PresentBy}
-use Rattle.history.specs.Answers.{isAnswer}
+use Rattle.rules.specs.Told.{isAnswer}
 use Rattle.history.specs.Goes.{past, looksIn, looksOld, ShownBy, Gone, ending, Onward, stepped, Follows, Ends, Goes}
 use Rattle.history.proofs.Shown.{live-absent, entry-named}
 

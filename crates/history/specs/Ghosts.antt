@@ -10,9 +10,9 @@ use Rattle.rules.specs.declared.Task.{Task}
 use Rattle.rules.specs.Words.{pick, _or_, get, remove, scan, usesFunction}
 use Rattle.rules.specs.Calls.{Call}
 use Rattle.rules.specs.Map.{lookup}
-use Rattle.facts.specs.Simulates.{changeAnswer}
-use Rattle.history.specs.Runs.{tablesAt, mapAt, Stepped}
-use Rattle.history.specs.Answers.{NeverDecides, ByChange}
+use Rattle.simulation.specs.Beside.{changeAnswer}
+use Rattle.statements.specs.Runs.{tablesAt, mapAt, Stepped}
+use Rattle.statements.specs.Answers.{NeverDecides, ByChange}
 use Rattle.history.specs.Goes.{past, looksIn, looksOld, Gone}
 
 -- the row has what the operation was started with: "Arguments an operation doesn't use are kept as 0", and a scan's key is its cursor

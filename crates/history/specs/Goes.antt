@@ -13,13 +13,13 @@ use Rattle.rules.specs.declared.Decision.{Decision}
 use Rattle.rules.specs.declared.Report.{Report}
 use Rattle.rules.specs.declared.Report.the-variants as report
 use Rattle.rules.specs.Words.{_and_, _or_, scan}
-use Rattle.rules.specs.Told.{told}
+use Rattle.rules.specs.Told.{told, isAnswer}
 use Rattle.rules.specs.Tables.{Tables, task, mark, value, putTask}
 use Rattle.rules.specs.Stages.{apply}
 use Rattle.rules.specs.Map.{Pair, effect, onAbsent, onPresent}
-use Rattle.facts.specs.Simulates.{decides, changeAnswer}
+use Rattle.statements.specs.Runs.{decides}
+use Rattle.simulation.specs.Beside.{changeAnswer}
 use Rattle.simulation.specs.Named.{NamedIn, PresentBy}
-use Rattle.history.specs.Answers.{isAnswer}
 
 -- ---- where a task stands
 -- decided: 16 to 21, and 12 when swapped, are past the deciding step

@@ -11,7 +11,7 @@ use Rattle.rules.specs.Stages.{decide, apply}
 use Rattle.rules.specs.Rebalance.{gives}
 use Rattle.rules.specs.Calls.{Call, started, calls}
 use Rattle.rules.specs.Calls.Call.{start, step}
-use Rattle.history.specs.Runs.{tablesAt, Working}
+use Rattle.statements.specs.Runs.{tablesAt, Working}
 
 module _ (z : Sizes) (s : Tables) (c : Call) (n : ℕ) where
   pub record Begins (op k a f : ℕ) : Type 0 where
@@ -47,3 +47,12 @@ pub data Came (z : Sizes) (run : ℕ → Call) (n op k a f j i : ℕ) : Type 0 w
   begins : j ≡ i → Begins z (tablesAt z run i) (run i) n op k a f → Came z run n op k a f j i
   steps : Working z run n op k a f j i → Steps z (tablesAt z run i) (run i) n → Came z run n op k a f j i
   rests : Working z run n op k a f j i → Rests z (tablesAt z run i) (run i) n → Came z run n op k a f j i
+
+-- some call started an operation on task n that is at work at moment i
+pub record Begun (z : Sizes) (run : ℕ → Call) (n i : ℕ) : Type 0 where
+  pub operation : ℕ
+  pub key : ℕ
+  pub argument : ℕ
+  pub function : ℕ
+  pub started : ℕ
+  pub working : Working z run n operation key argument function started i

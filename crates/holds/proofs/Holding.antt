@@ -27,7 +27,8 @@ use Rattle.laws.proofs.Tests.{picked}
 use Rattle.views.specs.Copies.{filled}
 use Rattle.views.proofs.Rows.{chunk-either}
 use Rattle.views.proofs.Copies.{fill-is, clears-is}
-use Rattle.facts.specs.Facts.{Limited, Roles, Rebalancing, Kept}
+use Rattle.statements.specs.Sound.{Limited}
+use Rattle.facts.specs.Facts.{Roles, Rebalancing, Kept}
 use Rattle.facts.specs.Reached.{Reached}
 use Rattle.facts.proofs.Applying.{Applied, applied-by}
 use Rattle.facts.proofs.Ends.{decides-fine}
@@ -36,7 +37,7 @@ use Rattle.facts.proofs.Swapping.{beforeOld}
 use Rattle.facts.proofs.SwapIn.{swap-by}
 use Rattle.facts.proofs.Copying
 use Rattle.facts.proofs.Making.{newRow}
-use Rattle.facts.proofs.Reaching.{calls-does, reached-kept}
+use Rattle.facts.proofs.Reaching.{call-by, reached-kept}
 use Rattle.handles.proofs.Owning.{put-tasks}
 use Rattle.handles.proofs.Handing.{swap-tasks}
 use Rattle.holds.specs.Held.{PublisherLive, Held}
@@ -251,9 +252,6 @@ module _ (z : Sizes) (lim : Limited z) where
       never : _≡_ {A = ℕ} 0 1 → ⊥
       never e = omega arith
 
-  call-held : (s : Tables) → Kept z s → Held z s → (c : Call) → Held z (calls z s c .tables)
-  call-held s k held c = rw (calls-does z lim s k c) (does-held z lim s k held c)
-
   pub reached-held : {s : Tables} → Reached z s → Held z s
   reached-held Reached.started = fresh-held
-  reached-held (Reached.called {s = s′} r c) = call-held s′ (reached-kept z lim r) (reached-held r) c
+  reached-held (Reached.called {s = s′} r c) = call-by z s′ c (Held z) (reached-held r) (does-held z lim s′ (reached-kept z lim r) (reached-held r) c)

@@ -3,3 +3,4 @@ pub mod Holding
 pub mod Marking
 pub mod Marks
 pub mod Unlinked
+pub mod Shaped

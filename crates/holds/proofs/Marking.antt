@@ -21,7 +21,8 @@ use Rattle.rules.specs.Walks.{find, lowestFree}
 use Rattle.rules.specs.Stages
 use Rattle.laws.proofs.EachStage.{each-stage}
 use Rattle.laws.proofs.Tests.{picked}
-use Rattle.facts.specs.Facts.{Limited, Holds, holdAt, Kept}
+use Rattle.statements.specs.Sound.{Limited}
+use Rattle.facts.specs.Facts.{Holds, holdAt, Kept}
 use Rattle.facts.proofs.Numbers.{holding}
 use Rattle.handles.proofs.Free.{free-unheld}
 use Rattle.holds.specs.Marked.{OldDeleted, NewWritten, Marked}

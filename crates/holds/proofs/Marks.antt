@@ -22,12 +22,13 @@ use Rattle.rules.specs.Rebalance.{Outcome}
 use Rattle.rules.specs.Calls.{Call, fresh, started, starts, steps, does, calls}
 use Rattle.rules.specs.Calls.Call.{start, step, begin, rebalance}
 use Rattle.laws.proofs.Tests.{picked}
-use Rattle.facts.specs.Facts.{Limited, Kept}
+use Rattle.statements.specs.Sound.{Limited}
+use Rattle.facts.specs.Facts.{Kept}
 use Rattle.facts.specs.Reached.{Reached}
 use Rattle.facts.proofs.Applying.{Applied, applied-by}
 use Rattle.facts.proofs.Ends.{decides-fine}
 use Rattle.facts.proofs.Fresh.{getD-all}
-use Rattle.facts.proofs.Reaching.{calls-does, reached-kept}
+use Rattle.facts.proofs.Reaching.{call-by, reached-kept}
 use Rattle.handles.specs.Owned.{NewOwn, Owned}
 use Rattle.handles.proofs.Owning.{OwnedBy, put-tasks}
 use Rattle.handles.proofs.Keys.{reached-owned}
@@ -119,9 +120,6 @@ module _ (z : Sizes) (lim : Limited z) where
       out : NONE < z .handles → ⊥
       out b = omega (arith, lim .handles)
 
-  call-marked : (s : Tables) → Kept z s → OwnedBy z s → Marked z s → (c : Call) → Marked z (calls z s c .tables)
-  call-marked s k own m c = rw (calls-does z lim s k c) (does-marked z lim s k own m c)
-
   pub reached-marked : {s : Tables} → Reached z s → Marked z s
   reached-marked Reached.started = fresh-marked
-  reached-marked (Reached.called {s = s′} r c) = call-marked s′ (reached-kept z lim r) (reached-owned z lim r) (reached-marked r) c
+  reached-marked (Reached.called {s = s′} r c) = call-by z s′ c (Marked z) (reached-marked r) (does-marked z lim s′ (reached-kept z lim r) (reached-owned z lim r) (reached-marked r) c)

@@ -10,6 +10,8 @@ use native.Mathlib.Omega.{arith}
 use lib.Dec.{eqb, ltb, leb}
 use lib.ListN.{length, getD, set, take, drop, length-set}
 use borrow.Author.Tests.{leb-false, eqb-true, ltb-true}
+use Rattle.rules.specs.Map.{Ascends}
+use Rattle.views.specs.Copies.{entryKey, filled, cleared, upFrom}
 use Rattle.rules.specs.declared.Sizes.{Sizes}
 use Rattle.rules.specs.declared.Directory.{Directory}
 use Rattle.rules.specs.declared.Task.{Task}
@@ -28,10 +30,10 @@ use Rattle.rules.specs.Rebalance.{Outcome, unusedCount, unusedFrom, publishedOn
 use Rattle.rules.specs.Calls.{Call, fresh, started, starts, steps, does, calls}
 use Rattle.rules.specs.Calls.Call.{start, step, begin, rebalance}
 use Rattle.laws.proofs.Tests.{picked, by-test}
-use Rattle.views.specs.Copies.{filled, cleared, upFrom, Rising}
 use Rattle.views.proofs.Rows.{chunk-either, entry-put}
 use Rattle.views.proofs.Copies.{fill-is, clears-is, cleared-other, cleared-here}
-use Rattle.facts.specs.Facts.{Limited, listed, Waits, Allowed, Kept}
+use Rattle.statements.specs.Sound.{Limited}
+use Rattle.facts.specs.Facts.{listed, Waits, Allowed, Kept}
 use Rattle.facts.specs.Reached.{Reached}
 use Rattle.facts.proofs.Applying.{Applied, applied-by}
 use Rattle.facts.proofs.Ends.{decides-fine}
@@ -45,7 +47,7 @@ use Rattle.rules.specs.Shape.{numbers}
 use Rattle.laws.specs.Counts.{Every}
 use Rattle.facts.proofs.Swapping.{beforeOld}
 use Rattle.facts.proofs.SwapIn.{swap-by}
-use Rattle.facts.proofs.Reaching.{calls-does, reached-kept}
+use Rattle.facts.proofs.Reaching.{call-by, reached-kept}
 use Rattle.holds.specs.Unlinked.{UnlinkedNone}
 use Rattle.holds.proofs.Publishing.{NamesLinked, decides-publish}
 
@@ -73,7 +75,7 @@ up-from-in n (suc m) e ge lt = elim (ℕ-discrete (e .0) n) [ yes q ↦ List·Me
 -- a new chunk made of a list has all its naming entries linked
 module _ (z : Sizes) (lim : Limited z) (first : ChunkNo) (cs : List Chunk) (es : List Entry) (h : Based z first cs es)
     (c : ChunkNo) (min : ℕ) (l : List Entry) (b : c .0 < z .chunks) (empty : chunkAt cs c .status ≡ unused) (short : length l ≤ z .entries)
-    (rising : Rising 0 l) (handles : Every (λ x. numbers (z .handles) (x .handle .0) ≡ true) l) where
+    (rising : Ascends entryKey 0 l) (handles : Every (λ x. numbers (z .handles) (x .handle .0) ≡ true) l) where
   made-unlinked : UnlinkedNone z cs es → UnlinkedNone z (set cs (c .0) (newRow min l)) (filled z c 0 l es)
   made-unlinked un f e bf be i = ⊎-elim (λ (p : f ≡ c). here p) (λ ne. other ne) (same-chunk f c)
     where
@@ -271,9 +273,6 @@ module _ (z : Sizes) (lim : Limited z) where
       none : NONE < z .handles → ⊥
       none j = omega (arith, lim .handles)
 
-  call-unlinked : (s : Tables) → Kept z s → UnlinkedNone z (s .chunks) (s .entries) → (c : Call) → UnlinkedNone z (calls z s c .tables .chunks) (calls z s c .tables .entries)
-  call-unlinked s k un c = rw (calls-does z lim s k c) (does-unlinked z lim s k un c)
-
   pub reached-unlinked : {s : Tables} → Reached z s → UnlinkedNone z (s .chunks) (s .entries)
   reached-unlinked Reached.started = fresh-unlinked
-  reached-unlinked (Reached.called {s = s′} r c) = call-unlinked s′ (reached-kept z lim r) (reached-unlinked r) c
+  reached-unlinked (Reached.called {s = s′} r c) = call-by z s′ c (λ x. UnlinkedNone z (x .chunks) (x .entries)) (reached-unlinked r) (does-unlinked z lim s′ (reached-kept z lim r) (reached-unlinked r) c)

@@ -8,8 +8,8 @@ use lib.Dec.{eqb}
 use lib.ListN.{length, set}
 use borrow.Author.Tests.{eq-eqb, ne-eqb}
 use Rattle.rules.specs.declared.Report.{Report}
-use Rattle.calls.specs.Promise.{Words}
-use Rattle.host.specs.Answers.{Says, Answered}
+use Rattle.calls.specs.Promise.{Lending}
+use Rattle.host.specs.Linked.{Says, Answered}
 
 -- both words written are all of two
 pub two-written : (l : List ℕ) (a b : ℕ) → length l ≡ 2 → set (set l 0 a) 1 b ≡ a ∷ b ∷ []
@@ -18,11 +18,11 @@ two-written (x ∷ []) a b h = absurd (omega (arith, h))
 two-written (x ∷ (y ∷ [])) a b h = refl
 two-written (x ∷ (y ∷ (v ∷ l))) a b h = absurd (omega (arith, h))
 
-module _ (Promised : Report → Type 0) (given : List ℕ) (before : Words) where
+module _ (Promised : Report → Type 0) (given : List ℕ) (before : Lending) where
   pub refused : (length given ≡ 2 → ⊥) → Answered Promised 0 given given before before
   refused other =
-      record { refuses = λ h. record { refused = refl; answered = refl; left = refl }; reports = λ h. absurd (true≢false (sym h ∙ ne-eqb (length given) 2 other)) }
+      record { refuses = λ h. (refl, refl, refl); reports = λ h. absurd (true≢false (sym h ∙ ne-eqb (length given) 2 other)) }
 
-  pub reported : (n : ℕ) (answer : List ℕ) (after : Words) (r : Report) → length given ≡ 2 → Promised r → Says n answer r → Answered Promised n given answer before after
+  pub reported : (n : ℕ) (answer : List ℕ) (after : Lending) (r : Report) → length given ≡ 2 → Promised r → Says n answer r → Answered Promised n given answer before after
   reported n answer after r two promised says =
-      record { refuses = λ h. absurd (true≢false (sym (eq-eqb (length given) 2 two) ∙ h)); reports = λ h. record { report = r; promised = promised; says = says } }
+      record { refuses = λ h. absurd (true≢false (sym (eq-eqb (length given) 2 two) ∙ h)); reports = λ h. (r, promised, says) }

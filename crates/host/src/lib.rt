@@ -7,8 +7,8 @@ ghost use lib.ListN.{length};
 ghost use Rattle.rules.specs.Told.{told};
 ghost use Rattle.rules.specs.Words.{limits};
 ghost use Rattle.rules.specs.Calls.{Call};
-ghost use Rattle.calls.specs.Promise.{words, Promise, Makes};
-ghost use Rattle.host.specs.Answers.{Says, Answered};
+ghost use Rattle.calls.specs.Promise.{Promise, Makes, wordsLent, wordsLeft};
+ghost use Rattle.host.specs.Linked.{Says, Answered};
 
 // The report's number.
 fn number(r: Report) -> u64
@@ -94,7 +94,7 @@ pub extern "C" fn kamrduch_fresh(
     marks: &mut [u64],
     answer: &mut [u64],
 ) -> u64
-    ensures { λ m. ⌜ Answered (Makes limits (words (now (directory .entry)) (now (tasks .entry)) (now (chunks .entry)) (now (entries .entry)) (now (values .entry)) (now (marks .entry))) (words (now (directory .exit)) (now (tasks .exit)) (now (chunks .exit)) (now (entries .exit)) (now (values .exit)) (now (marks .exit)))) m (now (answer .entry)) (now (answer .exit)) (words (now (directory .entry)) (now (tasks .entry)) (now (chunks .entry)) (now (entries .entry)) (now (values .entry)) (now (marks .entry))) (words (now (directory .exit)) (now (tasks .exit)) (now (chunks .exit)) (now (entries .exit)) (now (values .exit)) (now (marks .exit))) ⌝ }
+    ensures { λ m. ⌜ Answered (Makes limits (wordsLent directory tasks chunks entries values marks) (wordsLeft directory tasks chunks entries values marks)) m (now (answer .entry)) (now (answer .exit)) (wordsLent directory tasks chunks entries values marks) (wordsLeft directory tasks chunks entries values marks) ⌝ }
 {
     if answer.len() != 2 {
         return 0;
@@ -119,7 +119,7 @@ pub extern "C" fn kamrduch_start(
     f: u64,
     answer: &mut [u64],
 ) -> u64
-    ensures { λ m. ⌜ Answered (Promise limits (Call.start n op k a f) (words (now (directory .entry)) (now (tasks .entry)) (now (chunks .entry)) (now (entries .entry)) (now (values .entry)) (now (marks .entry))) (words (now (directory .entry)) (now (tasks .exit)) (now (chunks .entry)) (now (entries .entry)) (now (values .entry)) (now (marks .entry)))) m (now (answer .entry)) (now (answer .exit)) (words (now (directory .entry)) (now (tasks .entry)) (now (chunks .entry)) (now (entries .entry)) (now (values .entry)) (now (marks .entry))) (words (now (directory .entry)) (now (tasks .exit)) (now (chunks .entry)) (now (entries .entry)) (now (values .entry)) (now (marks .entry))) ⌝ }
+    ensures { λ m. ⌜ Answered (Promise limits (Call.start n op k a f) (wordsLent directory tasks chunks entries values marks) (wordsLeft directory tasks chunks entries values marks)) m (now (answer .entry)) (now (answer .exit)) (wordsLent directory tasks chunks entries values marks) (wordsLeft directory tasks chunks entries values marks) ⌝ }
 {
     if answer.len() != 2 {
         return 0;
@@ -152,7 +152,7 @@ pub extern "C" fn kamrduch_step(
     n: u64,
     answer: &mut [u64],
 ) -> u64
-    ensures { λ m. ⌜ Answered (Promise limits (Call.step n) (words (now (directory .entry)) (now (tasks .entry)) (now (chunks .entry)) (now (entries .entry)) (now (values .entry)) (now (marks .entry))) (words (now (directory .entry)) (now (tasks .exit)) (now (chunks .exit)) (now (entries .exit)) (now (values .exit)) (now (marks .exit)))) m (now (answer .entry)) (now (answer .exit)) (words (now (directory .entry)) (now (tasks .entry)) (now (chunks .entry)) (now (entries .entry)) (now (values .entry)) (now (marks .entry))) (words (now (directory .entry)) (now (tasks .exit)) (now (chunks .exit)) (now (entries .exit)) (now (values .exit)) (now (marks .exit))) ⌝ }
+    ensures { λ m. ⌜ Answered (Promise limits (Call.step n) (wordsLent directory tasks chunks entries values marks) (wordsLeft directory tasks chunks entries values marks)) m (now (answer .entry)) (now (answer .exit)) (wordsLent directory tasks chunks entries values marks) (wordsLeft directory tasks chunks entries values marks) ⌝ }
 {
     if answer.len() != 2 {
         return 0;
@@ -173,7 +173,7 @@ pub extern "C" fn kamrduch_begin(
     k: u64,
     answer: &mut [u64],
 ) -> u64
-    ensures { λ m. ⌜ Answered (Promise limits (Call.begin k) (words (now (directory .entry)) (now (tasks .entry)) (now (chunks .entry)) (now (entries .entry)) (now (values .entry)) (now (marks .entry))) (words (now (directory .exit)) (now (tasks .entry)) (now (chunks .exit)) (now (entries .entry)) (now (values .entry)) (now (marks .entry)))) m (now (answer .entry)) (now (answer .exit)) (words (now (directory .entry)) (now (tasks .entry)) (now (chunks .entry)) (now (entries .entry)) (now (values .entry)) (now (marks .entry))) (words (now (directory .exit)) (now (tasks .entry)) (now (chunks .exit)) (now (entries .entry)) (now (values .entry)) (now (marks .entry))) ⌝ }
+    ensures { λ m. ⌜ Answered (Promise limits (Call.begin k) (wordsLent directory tasks chunks entries values marks) (wordsLeft directory tasks chunks entries values marks)) m (now (answer .entry)) (now (answer .exit)) (wordsLent directory tasks chunks entries values marks) (wordsLeft directory tasks chunks entries values marks) ⌝ }
 {
     if answer.len() != 2 {
         return 0;
@@ -193,7 +193,7 @@ pub extern "C" fn kamrduch_rebalance(
     marks: &[u64],
     answer: &mut [u64],
 ) -> u64
-    ensures { λ m. ⌜ Answered (Promise limits (Call.rebalance) (words (now (directory .entry)) (now (tasks .entry)) (now (chunks .entry)) (now (entries .entry)) (now (values .entry)) (now (marks .entry))) (words (now (directory .exit)) (now (tasks .entry)) (now (chunks .exit)) (now (entries .exit)) (now (values .entry)) (now (marks .entry)))) m (now (answer .entry)) (now (answer .exit)) (words (now (directory .entry)) (now (tasks .entry)) (now (chunks .entry)) (now (entries .entry)) (now (values .entry)) (now (marks .entry))) (words (now (directory .exit)) (now (tasks .entry)) (now (chunks .exit)) (now (entries .exit)) (now (values .entry)) (now (marks .entry))) ⌝ }
+    ensures { λ m. ⌜ Answered (Promise limits (Call.rebalance) (wordsLent directory tasks chunks entries values marks) (wordsLeft directory tasks chunks entries values marks)) m (now (answer .entry)) (now (answer .exit)) (wordsLent directory tasks chunks entries values marks) (wordsLeft directory tasks chunks entries values marks) ⌝ }
 {
     if answer.len() != 2 {
         return 0;

@@ -1,12 +1,11 @@
 -- A loop that fills a table from the front with one row, and the tables filled so.
 use Prim.Native.Nat.{ℕ, _+_, _*_, _<_, _≤_}
-use mathlib.Core.Path.{_≡_, refl, sym, ap, _∙_, subst}
-use mathlib.Core.Logic.{_⊎_, inl, inr}
+use mathlib.Core.Path.{_≡_, sym, ap, _∙_}
 use mathlib.Core.List.{List, [], _∷_, _++_}
 use native.Mathlib.Nat.{le-antisymm}
 use native.Mathlib.Numerals.{add-one}
-use lib.ListN.{length, getD, set, length-set, take, replicate, replicate-append-replicate}
-use lib.Seq.{take-suc-set, take-length, set-getD}
+use lib.ListN.{length, set, take, replicate, replicate-append-replicate}
+use lib.Seq.{take-suc-set, take-length}
 use Rattle.rules.specs.declared.Sizes.{Sizes}
 use Rattle.rules.specs.Words.{live}
 use Rattle.rules.specs.Tables.{idleTask, emptyChunk, emptyEntry}
@@ -21,11 +20,6 @@ module _ {A : Type 0} (x : A) where
       ∙ take-suc-set l i x h
       ∙ ap (λ (k : List A). k ++ (x ∷ [])) e
       ∙ replicate-append-replicate i 1 x
-
-  -- the next row is written, or stands already
-  pub filled-either : (l w : List A) (i : ℕ) → i < length l → take i l ≡ replicate i x → (w ≡ set l i x) ⊎ ((getD l i x ≡ x) × (w ≡ l)) → (take (i + 1) w ≡ replicate (i + 1) x) × (length w ≡ length l)
-  filled-either l w i h e (inl p) = rw p (filled-more l i h e, length-set l i x)
-  filled-either l w i h e (inr p) = rw (p .1) (subst (λ (k : List A). take (i + 1) k ≡ replicate (i + 1) x) (ap (λ (y : A). set l i y) (sym (p .0)) ∙ set-getD l i x) (filled-more l i h e), refl)
 
   pub filled-all : (l : List A) (n i : ℕ) → length l ≡ n → n ≤ i → i ≤ n → take i l ≡ replicate i x → l ≡ replicate n x
   filled-all l n i h a b e =

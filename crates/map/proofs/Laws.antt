@@ -10,32 +10,32 @@ use native.Mathlib.Omega.{arith}
 use lib.Dec.{eqb, ltb}
 use lib.ListN.{length}
 use borrow.Author.Tests.{eq-eqb, ne-eqb, ltb-true, ltb-false, eqb-true, eqb-false}
-use Rattle.rules.specs.Map.{Pair, pair, Ascends, lookup, insert, delete}
+use Rattle.rules.specs.Map.{Pair, pair, pairKey, Ascends, lookup, insert, delete}
 use Rattle.rules.proofs.Tests.{picked-by}
 
 -- ---- the order
-pub ascends-from : (a b : ℕ) (m : List Pair) → a ≤ b → Ascends b m → Ascends a m
+pub ascends-from : (a b : ℕ) (m : List Pair) → a ≤ b → Ascends pairKey b m → Ascends pairKey a m
 unfolding Ascends
 ascends-from a b [] le h = tt
 ascends-from a b (x ∷ m) le h = (omega arith, h .1)
 
-pub ascends-insert : (a k v : ℕ) (m : List Pair) → a ≤ k → Ascends a m → Ascends a (insert m k v)
+pub ascends-insert : (a k v : ℕ) (m : List Pair) → a ≤ k → Ascends pairKey a m → Ascends pairKey a (insert m k v)
 unfolding Ascends insert
 ascends-insert a k v [] le h = (le, tt)
 ascends-insert a k v (x ∷ m) le h =
-    picked-by (Ascends a) (ltb (x .key) k) (λ e. (h .0, ascends-insert (x .key + 1) k v m (omega (arith, ltb-true)) (h .1))) (λ e.
-    picked-by (Ascends a) (eqb (x .key) k) (λ q. (le, subst (λ (j : ℕ). Ascends (j + 1) m) (eqb-true (x .key) k q) (h .1)))
+    picked-by (Ascends pairKey a) (ltb (x .key) k) (λ e. (h .0, ascends-insert (x .key + 1) k v m (omega (arith, ltb-true)) (h .1))) (λ e.
+    picked-by (Ascends pairKey a) (eqb (x .key) k) (λ q. (le, subst (λ (j : ℕ). Ascends pairKey (j + 1) m) (eqb-true (x .key) k q) (h .1)))
     (λ q. let ne = eqb-false (x .key) k q in (le, (omega (arith, ltb-false, ne), h .1))))
 
-pub ascends-delete : (a k : ℕ) (m : List Pair) → Ascends a m → Ascends a (delete m k)
+pub ascends-delete : (a k : ℕ) (m : List Pair) → Ascends pairKey a m → Ascends pairKey a (delete m k)
 unfolding Ascends delete
 ascends-delete a k [] h = tt
 ascends-delete a k (x ∷ m) h =
-    picked-by (Ascends a) (eqb (x .key) k) (λ q. ascends-from a (x .key + 1) m (omega arith) (h .1)) (λ q. (h .0, ascends-delete (x .key + 1) k m (h .1)))
+    picked-by (Ascends pairKey a) (eqb (x .key) k) (λ q. ascends-from a (x .key + 1) m (omega arith) (h .1)) (λ q. (h .0, ascends-delete (x .key + 1) k m (h .1)))
 
 -- ---- look-up
 -- a key below the first is absent
-pub lookup-below : (a k : ℕ) (m : List Pair) → Ascends a m → k < a → lookup m k ≡ none
+pub lookup-below : (a k : ℕ) (m : List Pair) → Ascends pairKey a m → k < a → lookup m k ≡ none
 unfolding Ascends lookup
 lookup-below a k [] h b = refl
 lookup-below a k (x ∷ m) h b = rw (ne-eqb (x .key) k (omega arith)) (lookup-below (x .key + 1) k m (h .1) (omega arith))
@@ -57,7 +57,7 @@ module _ (k v : ℕ) where
       (λ q. rw (ne-eqb k j (omega arith), ne-eqb (x .key) j (omega (arith, eqb-true)))) (λ q. rw (ne-eqb k j (omega arith))))
 
 -- a key that is deleted is absent
-pub lookup-delete : (a k : ℕ) (m : List Pair) → Ascends a m → lookup (delete m k) k ≡ none
+pub lookup-delete : (a k : ℕ) (m : List Pair) → Ascends pairKey a m → lookup (delete m k) k ≡ none
 unfolding Ascends lookup delete
 lookup-delete a k [] h = refl
 lookup-delete a k (x ∷ m) h =
@@ -81,12 +81,12 @@ lookup-member (x ∷ m) k v h =
     let w : x .value ≡ v = Option·some-injective (x .value) v e in
     List·Memᴰ·head (λ i. record { key = sym p i; value = sym w i })) (λ q e. List·Memᴰ·tail (lookup-member m k v e)) h
 
-member-above : (a : ℕ) (m : List Pair) (x : Pair) → Ascends a m → List·Memᴰ x m → a ≤ x .key
+member-above : (a : ℕ) (m : List Pair) (x : Pair) → Ascends pairKey a m → List·Memᴰ x m → a ≤ x .key
 unfolding Ascends
 member-above a [] x h i = absurd (List·Memᴰ·not-nil i)
 member-above a (y ∷ m) x h i = ⊎-elim (λ e. subst (λ (k : ℕ). a ≤ k) (ap (λ (z : Pair). z .key) (sym e)) (h .0)) (λ j. omega (arith, h, member-above (y .key + 1) m x (h .1) j)) (List·Memᴰ·cases-cons i)
 
-pub member-lookup : (a : ℕ) (m : List Pair) (k v : ℕ) → Ascends a m → List·Memᴰ (pair k v) m → lookup m k ≡ some v
+pub member-lookup : (a : ℕ) (m : List Pair) (k v : ℕ) → Ascends pairKey a m → List·Memᴰ (pair k v) m → lookup m k ≡ some v
 unfolding Ascends lookup
 member-lookup a [] k v h i = absurd (List·Memᴰ·not-nil i)
 member-lookup a (x ∷ m) k v h i =
@@ -103,12 +103,12 @@ pub lookup-past : (x : Pair) (m : List Pair) (k : ℕ) → x .key ≢ k → look
 unfolding lookup
 lookup-past x m k ne = rw (ne-eqb (x .key) k ne)
 
-not-below : (x y : Pair) (m n : List Pair) → Ascends (y .key + 1) n → lookup (x ∷ m) (x .key) ≡ lookup (y ∷ n) (x .key) → x .key < y .key → ⊥
+not-below : (x y : Pair) (m n : List Pair) → Ascends pairKey (y .key + 1) n → lookup (x ∷ m) (x .key) ≡ lookup (y ∷ n) (x .key) → x .key < y .key → ⊥
 unfolding Ascends
 not-below x y m n h e b =
     Option·none-ne-some _ (sym (lookup-below (y .key) (x .key) (y ∷ n) (le-refl _, h) b) ∙ sym e ∙ lookup-first x m)
 
-pub same-lookup : (a b : ℕ) (m n : List Pair) → Ascends a m → Ascends b n → ((k : ℕ) → lookup m k ≡ lookup n k) → m ≡ n
+pub same-lookup : (a b : ℕ) (m n : List Pair) → Ascends pairKey a m → Ascends pairKey b n → ((k : ℕ) → lookup m k ≡ lookup n k) → m ≡ n
 unfolding Ascends lookup
 same-lookup a b [] [] h g f = refl
 same-lookup a b [] (y ∷ n) h g f = absurd (Option·none-ne-some _ (f (y .key) ∙ lookup-first y n))
@@ -137,7 +137,7 @@ length-insert-absent k v (x ∷ m) h =
     picked-by (λ (l : List Pair). length l ≡ suc (length m) + 1) (eqb (x .key) k)
     (λ q. absurd (Option·some-ne-none _ (sym (lookup-first x m) ∙ ap (lookup (x ∷ m)) (eqb-true (x .key) k q) ∙ h))) (λ q. omega arith))
 
-pub length-insert-present : (a k v u : ℕ) (m : List Pair) → Ascends a m → lookup m k ≡ some u → length (insert m k v) ≡ length m
+pub length-insert-present : (a k v u : ℕ) (m : List Pair) → Ascends pairKey a m → lookup m k ≡ some u → length (insert m k v) ≡ length m
 unfolding Ascends lookup insert
 length-insert-present a k v u [] h e = absurd (Option·none-ne-some _ e)
 length-insert-present a k v u (x ∷ m) h e =

@@ -9,7 +9,7 @@ use lib.Dec.{eqb}
 use borrow.Author.Tests.{eqb-true}
 use Rattle.rules.specs.Words.{get, put, putIfAbsent, upsert, compute, remove, inserts}
 use Rattle.rules.specs.Stages.{applied}
-use Rattle.rules.specs.Map.{Pair, Ascends, lookup, insert, delete, Effect, onAbsent, onPresent, bySeen, sequential}
+use Rattle.rules.specs.Map.{Pair, pairKey, Ascends, lookup, insert, delete, Effect, onAbsent, onPresent, bySeen, sequential}
 use Rattle.rules.proofs.Tests.{picked, picked-by}
 use Rattle.map.proofs.Laws.{ascends-insert, ascends-delete, lookup-insert-other, lookup-delete-other}
 
@@ -39,8 +39,8 @@ module _ (m : List Pair) (op k a f : ℕ) where
           (picked Q (eqb op upsert) (more (applied f a v)) (picked Q (eqb op compute) (more (applied f a v)) less))))
 
   -- the order, from any bound that the key keeps
-  pub sequential-ascends : (b : ℕ) → b ≤ k → Ascends b m → Ascends b (sequential m op k a f .map)
-  sequential-ascends b le h = leaves (Ascends b) h (λ v. ascends-insert b k v m le h) (ascends-delete b k m h)
+  pub sequential-ascends : (b : ℕ) → b ≤ k → Ascends pairKey b m → Ascends pairKey b (sequential m op k a f .map)
+  sequential-ascends b le h = leaves (Ascends pairKey b) h (λ v. ascends-insert b k v m le h) (ascends-delete b k m h)
 
   pub sequential-other : (j : ℕ) → j ≢ k → lookup (sequential m op k a f .map) j ≡ lookup m j
   sequential-other j ne = leaves (λ l. lookup l j ≡ lookup m j) refl (λ v. lookup-insert-other k v m j ne) (lookup-delete-other k m j ne)

@@ -25,56 +25,37 @@ ghost use Rattle.rebalance.specs.Parts.{newOf, joined, placed, cleared};
 fn frozen(x: Chunk) -> Chunk
     ensures { λ r. ⌜ r ≡ frozenOf x ⌝ }
 {
-    Chunk {
-        status: x.status,
-        frozen: 1,
-        min: x.min,
-        next: ChunkNo(x.next.0),
-        head: EntryNo(x.head.0),
-        used: x.used,
-    }
+    let mut row = x;
+    row.frozen = 1;
+    row
 }
 
 // As it was, and retired.
 fn retired(x: Chunk) -> Chunk
     ensures { λ r. ⌜ r ≡ withStatus x 3 ⌝ }
 {
-    Chunk {
-        status: 3,
-        frozen: x.frozen,
-        min: x.min,
-        next: ChunkNo(x.next.0),
-        head: EntryNo(x.head.0),
-        used: x.used,
-    }
+    let mut row = x;
+    row.status = 3;
+    row
 }
 
 // As it was, and live, with its next chunk.
 fn live_before(x: Chunk, c: ChunkNo) -> Chunk
     ensures { λ r. ⌜ r ≡ liveBefore x c ⌝ }
 {
-    Chunk {
-        status: 1,
-        frozen: x.frozen,
-        min: x.min,
-        next: c,
-        head: EntryNo(x.head.0),
-        used: x.used,
-    }
+    let mut row = x;
+    row.status = 1;
+    row.next = c;
+    row
 }
 
 // As it was, with its next chunk.
 fn with_next(x: Chunk, c: ChunkNo) -> Chunk
     ensures { λ r. ⌜ r ≡ withNextChunk x c ⌝ }
 {
-    Chunk {
-        status: x.status,
-        frozen: x.frozen,
-        min: x.min,
-        next: c,
-        head: EntryNo(x.head.0),
-        used: x.used,
-    }
+    let mut row = x;
+    row.next = c;
+    row
 }
 
 // ---- the directory's row, written anew
@@ -148,13 +129,13 @@ pub fn drain(z: Sizes, directory: &mut [u64], tasks: &[u64]) -> Report
 fn new_chunk(min: u64, many: usize) -> Chunk
     ensures { λ r. ⌜ r ≡ newOf min many ⌝ }
 {
-    let head = if many == 0 { NONE } else { 0 };
+    let head = if many == 0 { EntryNo(NONE) } else { EntryNo(0) };
     Chunk {
         status: 2,
         frozen: 0,
         min: min,
         next: ChunkNo(NONE),
-        head: EntryNo(head),
+        head: head,
         used: many as u64,
     }
 }

@@ -6,7 +6,7 @@ use lib.ListN.{getD, set, List·getD-map}
 use Rattle.rules.specs.declared.HandleNo.{HandleNo}
 use Rattle.rules.specs.Tables.{Tables, value, mark, putValue, putMark, withValues, withMarks}
 use Rattle.records.specs.declared.Record.{Record}
-use Rattle.records.specs.Records.{noRecord, recordAt, stored, marked, withValue, withDeleted, valueOf, deletedOf, withRecords}
+use Rattle.records.specs.Records.{noRecord, recordAt, freshened, stored, marked, withValue, withDeleted, valueOf, deletedOf, withRecords}
 
 -- a field of a row written anew is that field's list written there
 map-set : {A B : Type 0} (f : A → B) (xs : List A) (n : ℕ) (y : A) → map f (set xs n y) ≡ set (map f xs) n (f y)
@@ -24,6 +24,16 @@ map-kept f (x ∷ xs) (suc n) d y e = ap (λ zs. f x ∷ zs) (map-kept f xs n d 
 pub reads : (rs : List Record) (h : HandleNo) (r : Record) → r ≡ recordAt rs h
     → (r ≡ recordAt rs h) × ((s : Tables) → (r .value ≡ value (withRecords s rs) h) × (r .deleted ≡ mark (withRecords s rs) h))
 reads rs h r e = (e, λ s. (ap valueOf e ∙ sym (List·getD-map valueOf rs (h .0) noRecord), ap deletedOf e ∙ sym (List·getD-map deletedOf rs (h .0) noRecord)))
+
+-- records with the handle made fresh are the tables with the value and the mark put
+pub freshens : (rs : List Record) (h : HandleNo) (ws : List Record) → ws ≡ freshened rs h
+    → (ws ≡ freshened rs h) × ((s : Tables) → withRecords s ws ≡ putMark (putValue (withRecords s rs) h 0) h 0)
+freshens rs h ws e = (
+  e,
+  λ s. ap (withRecords s) e
+      ∙ ap (λ vs. withMarks (withValues s vs) (map deletedOf (freshened rs h))) (map-set valueOf rs (h .0) noRecord)
+      ∙ ap (λ ms. withMarks (withValues s (set (map valueOf rs) (h .0) 0)) ms) (map-set deletedOf rs (h .0) noRecord),
+)
 
 -- records with the value stored are the tables with the value put
 pub stores : (rs : List Record) (h : HandleNo) (v : ℕ) (ws : List Record) → ws ≡ stored rs h v

@@ -6,7 +6,7 @@ use Rattle.rules.specs.declared.HandleNo.{HandleNo}
 use Rattle.rules.specs.Tables.{Tables, withValues, withMarks}
 use Rattle.records.specs.declared.Record.{Record}
 
--- what a number past the last record reads as
+-- value 0, undeleted: what a number past the last record reads as, and a fresh handle's record
 abbrev pub noRecord : Record
 noRecord = record { value = 0; deleted = 0 }
 
@@ -20,7 +20,10 @@ withValue r v = record { value = v; deleted = r .deleted }
 abbrev pub withDeleted : Record → ℕ → Record
 withDeleted r m = record { value = r .value; deleted = m }
 
--- ---- the records after a store and after a mark: the one row is another, and no other
+-- ---- the records after a handle is made fresh, after a store and after a mark: the one row is another, and no other
+abbrev pub freshened : List Record → HandleNo → List Record
+freshened rs h = set rs (h .0) noRecord
+
 abbrev pub stored : List Record → HandleNo → ℕ → List Record
 stored rs h v = set rs (h .0) (withValue (recordAt rs h) v)
 

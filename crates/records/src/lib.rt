@@ -1,9 +1,9 @@
-// The handle table, lent as records (document 01, "What the tables hold"): a handle's record read, its value stored, its deleted mark set.
+// The handle table, lent as records (document 01, "What the tables hold"): a handle's record read, made fresh, its value stored, its deleted mark set.
 // A number past the last record reads as value 0, undeleted, and changes nothing.
 use rules::HandleNo;
 ghost use mathlib.Core.Path.{_≡_};
 ghost use Rattle.rules.specs.Tables.{Tables, value, mark, putValue, putMark};
-ghost use Rattle.records.specs.Records.{recordAt, stored, marked, withRecords};
+ghost use Rattle.records.specs.Records.{recordAt, freshened, stored, marked, withRecords};
 
 // A handle's record: its value, and its mark, 1 where it is deleted.
 pub struct Record {
@@ -22,6 +22,17 @@ pub fn read(records: &[Record], h: HandleNo) -> Record
     Record {
         value: 0,
         deleted: 0,
+    }
+}
+
+// The handle's record is undeleted, value 0.
+pub fn fresh(records: &mut [Record], h: HandleNo)
+    ensures { λ _. ⌜ (now (records .exit) ≡ freshened (now (records .entry)) h) × ((s : Tables) → withRecords s (now (records .exit)) ≡ putMark (putValue (withRecords s (now (records .entry))) h 0) h 0) ⌝ }
+{
+    let i = h.0 as usize;
+    if i < records.len() {
+        records[i].value = 0;
+        records[i].deleted = 0;
     }
 }
 

@@ -21,7 +21,8 @@ use Rattle.rules.specs.Calls.Call.{rebalance}
 use Rattle.laws.proofs.Tests.{picked}
 use Rattle.views.specs.Copies.{filled}
 use Rattle.views.proofs.Copies.{fill-is, clears-is, filled-length, filled-other, cleared-other}
-use Rattle.facts.specs.Facts.{Limited, Kept}
+use Rattle.statements.specs.Sound.{Limited}
+use Rattle.facts.specs.Facts.{Kept}
 use Rattle.facts.proofs.SwapIn.{swap-by}
 use Rattle.facts.proofs.Copying
 use Rattle.facts.proofs.Making.{newRow}

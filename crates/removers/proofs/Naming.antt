@@ -22,7 +22,8 @@ use Rattle.rules.specs.Words.{NONE, handleNo, live}
 use Rattle.rules.specs.Tables.{Tables, chunk, entry, task, withTasks}
 use Rattle.rules.specs.Stages
 use Rattle.laws.proofs.Tests.{picked, and-left, and-right}
-use Rattle.facts.specs.Facts.{Limited, Kept}
+use Rattle.statements.specs.Sound.{Limited}
+use Rattle.facts.specs.Facts.{Kept}
 use Rattle.facts.specs.Reached.{Reached}
 use Rattle.facts.proofs.Reaching.{reached-kept}
 use Rattle.handles.specs.Owned.{Row}
@@ -114,5 +115,5 @@ module _ (z : Sizes) (lim : Limited z) (s : Tables) (r : Reached z s) (n : ℕ) 
             where
               same : (c ≡ v .chunk) × (e ≡ v .named .entry)
               same =
-                  live-once z lim .once s r c (v .chunk) e (v .named .entry) (record { numbered = at .chunk; isLive = ap (λ (c : ChunkNo). chunk s c .status) (w .chunk) ∙ reached-held z lim r .publisher-live n (w .swaps .published) .isLive }) (record { numbered = v .numbered; isLive = is-live })
+                  live-once z lim s r c (v .chunk) e (v .named .entry) (record { numbered = at .chunk; isLive = ap (λ (c : ChunkNo). chunk s c .status) (w .chunk) ∙ reached-held z lim r .publisher-live n (w .swaps .published) .isLive }) (record { numbered = v .numbered; isLive = is-live })
                   (un c e (at .chunk) (at .entry) (rw q i)) (un (v .chunk) (v .named .entry) (v .numbered) (v .named .inside) (rw named-was i)) (rw q i) (ap handleNo (q ∙ sym named-was))

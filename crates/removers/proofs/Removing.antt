@@ -18,10 +18,12 @@ use Rattle.rules.specs.Rebalance.{Outcome, begins}
 use Rattle.rules.specs.Calls.{Call, fresh, started, starts, steps, does, calls}
 use Rattle.rules.specs.Calls.Call.{start, step, begin, rebalance}
 use Rattle.laws.proofs.Tests.{picked}
-use Rattle.facts.specs.Facts.{Limited, Kept}
+use Rattle.statements.specs.Sound.{Limited}
+use Rattle.facts.specs.Facts.{Kept}
 use Rattle.facts.specs.Reached.{Reached}
 use Rattle.facts.proofs.Fresh.{getD-all}
-use Rattle.facts.proofs.Reaching.{calls-does, reached-kept}
+use Rattle.facts.proofs.Reaching.{reached-kept}
+use Rattle.holds.proofs.Shaped.{calls-does}
 use Rattle.handles.proofs.Owning.{put-tasks}
 use Rattle.handles.proofs.Handing.{SameTasks, rebalance-tasks, begin-tasks}
 use Rattle.handles.proofs.Keys.{reached-owned}
@@ -164,7 +166,7 @@ module _ (z : Sizes) (lim : Limited z) (s : Tables) (r : Reached z s) (rem : Rem
   does-removers rebalance = moved (does z s rebalance .tables) (rebalance-tasks z s) (rebalance-moves z lim s kept (reached-owned z lim r) (reached-held z lim r) (reached-unlinked z lim r) (reached-copied z lim r) .0) (rebalance-rows z lim s kept)
 
   call-removers : (c : Call) → Removers z (calls z s c .tables)
-  call-removers c = rw (calls-does z lim s kept c) (does-removers c)
+  call-removers c = rw (calls-does z lim s r c) (does-removers c)
 
 module _ (z : Sizes) (lim : Limited z) where
   fresh-removers : Removers z (fresh z)

@@ -23,7 +23,8 @@ use Rattle.laws.proofs.EachStage.{at-stage}
 use Rattle.laws.proofs.Tests.{picked}
 use Rattle.views.proofs.Rows.{entry-put}
 use Rattle.views.proofs.Entries.{links-one}
-use Rattle.facts.specs.Facts.{Limited, EntryHeld, Holds, holdAt, Kept}
+use Rattle.statements.specs.Sound.{Limited}
+use Rattle.facts.specs.Facts.{EntryHeld, Holds, holdAt, Kept}
 use Rattle.facts.specs.Reached.{Reached}
 use Rattle.facts.proofs.Covering.{only}
 use Rattle.facts.proofs.Going.{found-held, lacks-key}
@@ -88,7 +89,7 @@ module _ (z : Sizes) (lim : Limited z) (s : Tables) (r : Reached z s) where
       holds-at : (m : ℕ) → t .stage ≡ m → m ≢ 0 → Holds z t (holdAt m)
       holds-at = holding z (s .chunks) (s .entries) t (kept .tasks n)
 
-      all : (h : Hold) → Holds z t h → h .old ≡ 1 → h .chunk ≡ 1 → h .entry ≡ 1 → Past z t
+      all : (h : Hold) → Holds z t h → h .old ≡ 3 → h .chunk ≡ 1 → h .entry ≡ 1 → Past z t
       all h H o c e = record { old = ltb-true _ _ (rw o at (H .old)); chunk = λ _. ltb-true _ _ (rw c at (H .chunk)); entry = λ _. ltb-true _ _ (rw e at (H .entry)) }
 
       before : 17 ≤ t .stage → t .stage ≡ 16 → ⊥

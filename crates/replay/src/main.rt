@@ -1,8 +1,16 @@
 // Reads a script of calls on standard input and answers each line; the calls are on one directory, fresh at first.
 mod tables;
 
+use rules::Directory;
 use script::Asked;
 use script::Line;
+
+// How many words the lent tables have.
+pub const TASKS_LENGTH: usize = Directory::TASKS * rows::TASK_WORDS;
+
+pub const CHUNKS_LENGTH: usize = Directory::CHUNKS * rows::CHUNK_WORDS;
+
+pub const ENTRIES_LENGTH: usize = Directory::CHUNKS * Directory::ENTRIES * rows::ENTRY_WORDS;
 
 // Where reading and printing stand between two bytes.
 struct Place {
@@ -33,12 +41,12 @@ fn answer(
     asked: Asked,
     out: &mut [u8; 65536],
     at: usize,
-    directory: &mut [u64; 5],
-    tasks: &mut [u64; 88],
-    chunks: &mut [u64; 192],
-    entries: &mut [u64; 3072],
-    values: &mut [u64; 560],
-    marks: &mut [u64; 560],
+    directory: &mut [u64; rows::DIRECTORY_WORDS],
+    tasks: &mut [u64; TASKS_LENGTH],
+    chunks: &mut [u64; CHUNKS_LENGTH],
+    entries: &mut [u64; ENTRIES_LENGTH],
+    values: &mut [u64; Directory::HANDLES],
+    marks: &mut [u64; Directory::HANDLES],
 ) -> usize {
     let at = room(out, at);
     match asked {
@@ -81,12 +89,12 @@ fn take(
     block: &[u8],
     from: Place,
     out: &mut [u8; 65536],
-    directory: &mut [u64; 5],
-    tasks: &mut [u64; 88],
-    chunks: &mut [u64; 192],
-    entries: &mut [u64; 3072],
-    values: &mut [u64; 560],
-    marks: &mut [u64; 560],
+    directory: &mut [u64; rows::DIRECTORY_WORDS],
+    tasks: &mut [u64; TASKS_LENGTH],
+    chunks: &mut [u64; CHUNKS_LENGTH],
+    entries: &mut [u64; ENTRIES_LENGTH],
+    values: &mut [u64; Directory::HANDLES],
+    marks: &mut [u64; Directory::HANDLES],
 ) -> Place {
     let mut line = from.line;
     let mut at = from.at;
@@ -125,12 +133,12 @@ fn answer_block(
     line: Line,
     input: &mut [u8],
     out: &mut [u8; 65536],
-    directory: &mut [u64; 5],
-    tasks: &mut [u64; 88],
-    chunks: &mut [u64; 192],
-    entries: &mut [u64; 3072],
-    values: &mut [u64; 560],
-    marks: &mut [u64; 560],
+    directory: &mut [u64; rows::DIRECTORY_WORDS],
+    tasks: &mut [u64; TASKS_LENGTH],
+    chunks: &mut [u64; CHUNKS_LENGTH],
+    entries: &mut [u64; ENTRIES_LENGTH],
+    values: &mut [u64; Directory::HANDLES],
+    marks: &mut [u64; Directory::HANDLES],
 ) -> Turn {
     let got = libc::read(0, input);
     if got <= 0 {
@@ -160,12 +168,12 @@ fn answer_block(
 fn replay(
     input: &mut [u8; 65536],
     out: &mut [u8; 65536],
-    directory: &mut [u64; 5],
-    tasks: &mut [u64; 88],
-    chunks: &mut [u64; 192],
-    entries: &mut [u64; 3072],
-    values: &mut [u64; 560],
-    marks: &mut [u64; 560],
+    directory: &mut [u64; rows::DIRECTORY_WORDS],
+    tasks: &mut [u64; TASKS_LENGTH],
+    chunks: &mut [u64; CHUNKS_LENGTH],
+    entries: &mut [u64; ENTRIES_LENGTH],
+    values: &mut [u64; Directory::HANDLES],
+    marks: &mut [u64; Directory::HANDLES],
 ) {
     let mut line = script::empty();
     // A loop has to end, so it counts its turns down from a number that no run uses up.
@@ -205,12 +213,12 @@ fn replay(
 fn main() {
     let mut input = io::large_buffer();
     let mut out = io::large_buffer();
-    let mut directory = [0u64; 5];
-    let mut tasks = [0u64; 88];
-    let mut chunks = [0u64; 192];
-    let mut entries = [0u64; 3072];
-    let mut values = [0u64; 560];
-    let mut marks = [0u64; 560];
+    let mut directory = [0u64; rows::DIRECTORY_WORDS];
+    let mut tasks = [0u64; TASKS_LENGTH];
+    let mut chunks = [0u64; CHUNKS_LENGTH];
+    let mut entries = [0u64; ENTRIES_LENGTH];
+    let mut values = [0u64; Directory::HANDLES];
+    let mut marks = [0u64; Directory::HANDLES];
     directory::fresh(
         &mut directory,
         &mut tasks,

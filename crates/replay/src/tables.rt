@@ -1,6 +1,11 @@
 // Every table as lines, leaving out what is 0 and none throughout.
+use crate::CHUNKS_LENGTH;
+use crate::ENTRIES_LENGTH;
+use crate::TASKS_LENGTH;
 use crate::room;
+use rules::Directory;
 ghost use Prim.Native.Nat.{_<_};
+ghost use Rattle.rules.specs.Words.{limits};
 
 // The used entries of chunk i.
 fn used_entries(
@@ -8,15 +13,15 @@ fn used_entries(
     at: usize,
     i: usize,
     used: u64,
-    entries: &[u64; 3072],
+    entries: &[u64; ENTRIES_LENGTH],
 ) -> usize
-    requires { ⌜ i < 32 ⌝ }
+    requires { ⌜ i < limits .chunks ⌝ }
 {
     let mut n = at;
     let mut e = 0;
-    while e < 32 {
+    while e < Directory::ENTRIES {
         if (e as u64) < used {
-            let x = rows::entry_row(entries, i * 32 + e);
+            let x = rows::entry_row(entries, i * Directory::ENTRIES + e);
             n = room(out, n);
             n = script::entry_line(out, n, i as u64, e as u64, x);
         }
@@ -28,12 +33,12 @@ fn used_entries(
 fn all_chunks(
     out: &mut [u8; 65536],
     at: usize,
-    chunks: &[u64; 192],
-    entries: &[u64; 3072],
+    chunks: &[u64; CHUNKS_LENGTH],
+    entries: &[u64; ENTRIES_LENGTH],
 ) -> usize {
     let mut n = at;
     let mut i = 0;
-    while i < 32 {
+    while i < Directory::CHUNKS {
         let c = rows::chunk_row(chunks, i);
         if c.status != 0 {
             n = room(out, n);
@@ -45,10 +50,15 @@ fn all_chunks(
     n
 }
 
-fn all_handles(out: &mut [u8; 65536], at: usize, values: &[u64; 560], marks: &[u64; 560]) -> usize {
+fn all_handles(
+    out: &mut [u8; 65536],
+    at: usize,
+    values: &[u64; Directory::HANDLES],
+    marks: &[u64; Directory::HANDLES],
+) -> usize {
     let mut n = at;
     let mut h = 0;
-    while h < 560 {
+    while h < Directory::HANDLES {
         let value = values[h];
         let mark = marks[h];
         if is_told(value, mark) {
@@ -68,10 +78,10 @@ fn is_told(value: u64, mark: u64) -> bool {
     mark != 0
 }
 
-fn all_tasks(out: &mut [u8; 65536], at: usize, tasks: &[u64; 88]) -> usize {
+fn all_tasks(out: &mut [u8; 65536], at: usize, tasks: &[u64; TASKS_LENGTH]) -> usize {
     let mut n = at;
     let mut i = 0;
-    while i < 8 {
+    while i < Directory::TASKS {
         let t = rows::task_row(tasks, i);
         if t.stage != 0 {
             n = room(out, n);
@@ -85,12 +95,12 @@ fn all_tasks(out: &mut [u8; 65536], at: usize, tasks: &[u64; 88]) -> usize {
 pub fn print(
     out: &mut [u8; 65536],
     at: usize,
-    directory: &[u64; 5],
-    tasks: &[u64; 88],
-    chunks: &[u64; 192],
-    entries: &[u64; 3072],
-    values: &[u64; 560],
-    marks: &[u64; 560],
+    directory: &[u64; rows::DIRECTORY_WORDS],
+    tasks: &[u64; TASKS_LENGTH],
+    chunks: &[u64; CHUNKS_LENGTH],
+    entries: &[u64; ENTRIES_LENGTH],
+    values: &[u64; Directory::HANDLES],
+    marks: &[u64; Directory::HANDLES],
 ) -> usize {
     let n = room(out, at);
     let n = script::directory_lines(out, n, rows::directory_row(directory));

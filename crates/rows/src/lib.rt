@@ -1,5 +1,5 @@
 // The leaves: a row of a lent table is read and written as a struct.
-// Above them nobody sees a word of the directory, a task, a chunk or an entry.
+// Code above reads and writes rows through them; a handle's value and its mark are words of their own.
 use rules::Chunk;
 use rules::ChunkNo;
 use rules::Directory;
@@ -14,6 +14,15 @@ ghost use Prim.Native.Nat.{ℕ, _+_, _*_, _^_, _<_, _≤_};
 ghost use lib.ListN.{length, set, getD};
 ghost use Rattle.rules.specs.Tables.{idleTask, emptyChunk, emptyEntry, row, chunkAt, entryAt};
 ghost use Rattle.rows.specs.Rows.{directoryOf, taskOf, chunkOf, entryOf, taskRows, chunkRows, entryRows, Numbers};
+
+// How many words a row has: the directory's own, a task's, a chunk's, an entry's.
+pub const DIRECTORY_WORDS: usize = 5;
+
+pub const TASK_WORDS: usize = 11;
+
+pub const CHUNK_WORDS: usize = 6;
+
+pub const ENTRY_WORDS: usize = 3;
 
 // The directory's own row.
 pub fn directory_row(words: &[u64]) -> Directory
@@ -45,7 +54,7 @@ pub fn task_row(words: &[u64], i: usize) -> Task
     requires { ⌜ i * 11 + 11 ≤ length (now words) ⌝ }
     ensures { λ r. ⌜ r ≡ taskOf (now (words .entry)) i ⌝ }
 {
-    let at = i * 11;
+    let at = i * TASK_WORDS;
     Task {
         stage: words[at],
         operation: words[at + 1],
@@ -65,7 +74,7 @@ pub fn put_task_row(words: &mut [u64], i: usize, x: Task)
     requires { ⌜ i * 11 + 11 ≤ length (now words) ⌝ }
     ensures { λ _. ⌜ ((n : ℕ) → taskRows n (now (words .exit)) ≡ set (taskRows n (now (words .entry))) i x) ⌝ }
 {
-    let at = i * 11;
+    let at = i * TASK_WORDS;
     words[at] = x.stage;
     words[at + 1] = x.operation;
     words[at + 2] = x.function;
@@ -84,7 +93,7 @@ pub fn chunk_row(words: &[u64], i: usize) -> Chunk
     requires { ⌜ i * 6 + 6 ≤ length (now words) ⌝ }
     ensures { λ r. ⌜ r ≡ chunkOf (now (words .entry)) i ⌝ }
 {
-    let at = i * 6;
+    let at = i * CHUNK_WORDS;
     Chunk {
         status: words[at],
         frozen: words[at + 1],
@@ -99,7 +108,7 @@ pub fn put_chunk_row(words: &mut [u64], i: usize, x: Chunk)
     requires { ⌜ i * 6 + 6 ≤ length (now words) ⌝ }
     ensures { λ _. ⌜ ((n : ℕ) → chunkRows n (now (words .exit)) ≡ set (chunkRows n (now (words .entry))) i x) ⌝ }
 {
-    let at = i * 6;
+    let at = i * CHUNK_WORDS;
     words[at] = x.status;
     words[at + 1] = x.frozen;
     words[at + 2] = x.min;
@@ -113,7 +122,7 @@ pub fn entry_row(words: &[u64], i: usize) -> Entry
     requires { ⌜ i * 3 + 3 ≤ length (now words) ⌝ }
     ensures { λ r. ⌜ r ≡ entryOf (now (words .entry)) i ⌝ }
 {
-    let at = i * 3;
+    let at = i * ENTRY_WORDS;
     Entry {
         key: words[at],
         handle: HandleNo(words[at + 1]),
@@ -125,7 +134,7 @@ pub fn put_entry_row(words: &mut [u64], i: usize, x: Entry)
     requires { ⌜ i * 3 + 3 ≤ length (now words) ⌝ }
     ensures { λ _. ⌜ ((n : ℕ) → entryRows n (now (words .exit)) ≡ set (entryRows n (now (words .entry))) i x) ⌝ }
 {
-    let at = i * 3;
+    let at = i * ENTRY_WORDS;
     words[at] = x.key;
     words[at + 1] = x.handle.0;
     words[at + 2] = x.next.0;

@@ -1,3 +1,4 @@
+pub mod Broken
 pub mod Marked
 pub mod Tests
 pub mod Each

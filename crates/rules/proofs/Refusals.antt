@@ -18,7 +18,7 @@ use Rattle.rules.specs.Rebalance.{Outcome, gives, rebalanceDoes, unusedC
 use Rattle.rules.specs.Shape.{shape}
 use Rattle.rules.specs.Calls.{Call, calls, does}
 use Rattle.rules.specs.Calls.Call.{start, step, begin, rebalance}
-use Rattle.rules.specs.Occasions.{refusal, occasions, occasionsOf, noneFree, Answers}
+use Rattle.rules.specs.Occasions.{refusal, occasions, occasionsOf, noneFree, RefusedBy}
 use Rattle.rules.proofs.Tests.{outside, or-assoc, pick-same}
 use Rattle.rules.proofs.Stages.{stage-cases, rebalance-cases}
 use Rattle.rules.proofs.Shaped.{stage-known, rebalance-known}
@@ -42,7 +42,7 @@ speaks (Refused n) = false
 
 -- ---- an outcome against its number
 module _ (s : Tables) (c : Call) where
-  done : (o : Outcome) → speaks (o .report) ≡ true → Answers s c 0 o
+  done : (o : Outcome) → speaks (o .report) ≡ true → RefusedBy s c 0 o
   done o h =
       record {
         returns = λ n. absurd (n refl);
@@ -51,15 +51,15 @@ module _ (s : Tables) (c : Call) where
         idles = λ e. absurd (omega arith);
       }
 
-  refused : (n : ℕ) → n ≢ 0 → n ≢ 9 → Answers s c n (gives s (Refused n))
+  refused : (n : ℕ) → n ≢ 0 → n ≢ 9 → RefusedBy s c n (gives s (Refused n))
   refused n a b = record { returns = λ q. refl; accepts = λ e. absurd (a e); leaves = λ q r. refl; idles = λ e. absurd (b e) }
 
   -- a test's refusal comes before the rest, where the test holds or where it fails
-  where-true : (b : Bool) (k n : ℕ) (o : Outcome) → k ≢ 0 → k ≢ 9 → (b ≡ false → Answers s c n o) → Answers s c (pick b k n) (pick b (gives s (Refused k)) o)
+  where-true : (b : Bool) (k n : ℕ) (o : Outcome) → k ≢ 0 → k ≢ 9 → (b ≡ false → RefusedBy s c n o) → RefusedBy s c (pick b k n) (pick b (gives s (Refused k)) o)
   where-true true k n o a b r = refused k a b
   where-true false k n o a b r = r refl
 
-  where-false : (b : Bool) (k n : ℕ) (o : Outcome) → k ≢ 0 → k ≢ 9 → (b ≡ true → Answers s c n o) → Answers s c (pick (not b) k n) (pick b o (gives s (Refused k)))
+  where-false : (b : Bool) (k n : ℕ) (o : Outcome) → k ≢ 0 → k ≢ 9 → (b ≡ true → RefusedBy s c n o) → RefusedBy s c (pick (not b) k n) (pick b o (gives s (Refused k)))
   where-false true k n o a b r = r refl
   where-false false k n o a b r = refused k a b
 
@@ -80,7 +80,7 @@ ruleset spoken = (said, answers, ended, pick-same)
 
 module _ (z : Sizes) (s : Tables) where
   -- ---- each call on tables that have the shape
-  start-answers : (n op k a f : ℕ) → Answers s (start n op k a f) (refusal (occasionsOf z s (start n op k a f))) (does z s (start n op k a f))
+  start-answers : (n op k a f : ℕ) → RefusedBy s (start n op k a f) (refusal (occasionsOf z s (start n op k a f))) (does z s (start n op k a f))
   unfolding refusal does
   start-answers n op k a f =
       where-true s _ (leb (z .tasks) n) 1 _ _ (omega arith) (omega arith) λ e.
@@ -88,16 +88,16 @@ module _ (z : Sizes) (s : Tables) where
       rw (outside 1 7 op, outside 1 3 f, or-assoc) (where-true s _ (ltb op 1 or ltb 7 op or (usesFunction op and (ltb f 1 or ltb 3 f))) 5 _ _ (omega arith) (omega arith) λ e.
       where-true s _ (eqb op scan and ltb a k) 4 _ _ (omega arith) (omega arith) λ e. done s _ _ refl)
 
-  begin-answers : (k : ℕ) → Answers s (begin k) (refusal (occasionsOf z s (begin k))) (does z s (begin k))
+  begin-answers : (k : ℕ) → RefusedBy s (begin k) (refusal (occasionsOf z s (begin k))) (does z s (begin k))
   unfolding refusal does
   begin-answers k =
       where-false s _ (eqb (s .directory .stage) idle) 6 _ _ (omega arith) (omega arith) λ e.
       where-true s _ (ltb (unusedCount (s .chunks)) 2) 7 _ _ (omega arith) (omega arith) λ e. done s _ _ refl
 
-  rebalance-answers : shape z s ≡ true → Answers s rebalance (refusal (occasionsOf z s rebalance)) (does z s rebalance)
+  rebalance-answers : shape z s ≡ true → RefusedBy s rebalance (refusal (occasionsOf z s rebalance)) (does z s rebalance)
   unfolding refusal does rebalanceDoes
   rebalance-answers h =
-      rebalance-cases (λ n. Answers s rebalance (pick (eqb n idle) 8 0) (rebalanceDoes n z s))
+      rebalance-cases (λ n. RefusedBy s rebalance (pick (eqb n idle) 8 0) (rebalanceDoes n z s))
       (refused s rebalance 8 (omega arith) (omega arith))
       (done s rebalance _ (simp spoken))
       (done s rebalance _ (simp spoken))
@@ -111,19 +111,19 @@ module _ (z : Sizes) (s : Tables) where
   stepped m x = gives (apply z (putTask s m (x .task)) (x .write)) (x .report)
 
   -- "stage 8 with no free handle"
-  eighth-answers : z .handles ≤ NONE → (m : ℕ) (t : Task) → Answers s (step m) (pick (noneFree (s .entries) (s .tasks) (z .handles)) 9 0) (stepped m (takesHandle z s t))
+  eighth-answers : z .handles ≤ NONE → (m : ℕ) (t : Task) → RefusedBy s (step m) (pick (noneFree (s .entries) (s .tasks) (z .handles)) 9 0) (stepped m (takesHandle z s t))
   eighth-answers le m t = go (noneFree (s .entries) (s .tasks) (z .handles)) refl
     where
-      go : (b : Bool) → noneFree (s .entries) (s .tasks) (z .handles) ≡ b → Answers s (step m) (pick (noneFree (s .entries) (s .tasks) (z .handles)) 9 0) (stepped m (takesHandle z s t))
+      go : (b : Bool) → noneFree (s .entries) (s .tasks) (z .handles) ≡ b → RefusedBy s (step m) (pick (noneFree (s .entries) (s .tasks) (z .handles)) 9 0) (stepped m (takesHandle z s t))
       go true e =
           rw (takes-free z s le, e)
           (record { returns = λ a. refl; accepts = λ a. absurd (omega arith); leaves = λ a b. absurd (b refl); idles = λ a. (m, refl, refl) })
       go false e = rw (takes-free z s le, e) (done s (step m) _ refl)
 
-  stage-answers : z .handles ≤ NONE → (m : ℕ) (t : Task) (n : ℕ) → n ≤ 22 → n ≢ 0 → Answers s (step m) (pick (eqb n 8 and noneFree (s .entries) (s .tasks) (z .handles)) 9 0) (stepped m (stageDoes n z s t))
+  stage-answers : z .handles ≤ NONE → (m : ℕ) (t : Task) (n : ℕ) → n ≤ 22 → n ≢ 0 → RefusedBy s (step m) (pick (eqb n 8 and noneFree (s .entries) (s .tasks) (z .handles)) 9 0) (stepped m (stageDoes n z s t))
   unfolding stageDoes
   stage-answers le m t =
-      stage-cases (λ n. n ≢ 0 → Answers s (step m) (pick (eqb n 8 and noneFree (s .entries) (s .tasks) (z .handles)) 9 0) (stepped m (stageDoes n z s t)))
+      stage-cases (λ n. n ≢ 0 → RefusedBy s (step m) (pick (eqb n 8 and noneFree (s .entries) (s .tasks) (z .handles)) 9 0) (stepped m (stageDoes n z s t)))
       (λ a. absurd (a refl))
       (λ a. done s (step m) _ refl)
       (λ a. done s (step m) _ (simp spoken))
@@ -148,20 +148,20 @@ module _ (z : Sizes) (s : Tables) where
       (λ a. done s (step m) _ refl)
       (λ a. done s (step m) _ (simp spoken))
 
-  step-answers : z .handles ≤ NONE → shape z s ≡ true → (n : ℕ) → Answers s (step n) (refusal (occasionsOf z s (step n))) (does z s (step n))
+  step-answers : z .handles ≤ NONE → shape z s ≡ true → (n : ℕ) → RefusedBy s (step n) (refusal (occasionsOf z s (step n))) (does z s (step n))
   unfolding refusal does
   step-answers le h n =
       where-true s _ (leb (z .tasks) n) 1 _ _ (omega arith) (omega arith) λ e.
       where-true s _ (eqb (task s n .stage) 0) 3 _ _ (omega arith) (omega arith) λ e.
       stage-answers le n (task s n) (task s n .stage) (stage-known z s h n) (eqb-false _ _ e)
 
-  call-answers : z .handles ≤ NONE → shape z s ≡ true → (c : Call) → Answers s c (refusal (occasionsOf z s c)) (does z s c)
+  call-answers : z .handles ≤ NONE → shape z s ≡ true → (c : Call) → RefusedBy s c (refusal (occasionsOf z s c)) (does z s c)
   call-answers le h (start n op k a f) = start-answers n op k a f
   call-answers le h (step n) = step-answers le h n
   call-answers le h (begin k) = begin-answers k
   call-answers le h rebalance = rebalance-answers h
 
 -- on any tables and numbers, of no more handles than a machine's word counts, since the number of the last word stands for none
-pub refusals : (z : Sizes) (s : Tables) (c : Call) → z .handles ≤ NONE → Answers s c (refusal (occasions z s c)) (calls z s c)
+pub refusals : (z : Sizes) (s : Tables) (c : Call) → z .handles ≤ NONE → RefusedBy s c (refusal (occasions z s c)) (calls z s c)
 unfolding refusal calls
 refusals z s c le = where-false s c (shape z s) 10 _ _ (omega arith) (omega arith) λ e. call-answers z s le e c

@@ -1,15 +1,16 @@
--- The marked cases M1 to M12, and one more: each is its calls from fresh tables, every report of them, and what the tables then show (document 01, "Marked cases").
+-- The marked cases M1 to M12, and three more: each is its calls from fresh tables, every report of them, and what the tables then show (document 01, "Marked cases").
 use Prim.Native.Nat.{ℕ, zero, suc, _+_, _-_, _^_}
 use mathlib.Core.List.{List, [], _∷_, _++_, map}
 use lib.ListN.{length}
+use Rattle.rules.specs.declared.Sizes.{Sizes}
 use Rattle.rules.specs.declared.Report.{Report}
 use Rattle.rules.specs.declared.Report.the-variants as report
-use Rattle.rules.specs.Words.{pick, limits, chunkNo, entryNo, get, put, putIfAbsent, compute, remove, scan}
+use Rattle.rules.specs.Words.{pick, limits, chunkNo, entryNo, get, put, putIfAbsent, upsert, compute, remove, scan}
 use Rattle.rules.specs.Tables.{Tables, task, chunk, entry}
 use Rattle.rules.specs.Walks.{linked}
 use Rattle.rules.specs.Rebalance.{Outcome, namingFrom}
 use Rattle.rules.specs.Shape.{liveCount, shape}
-use Rattle.rules.specs.Calls.{fresh, Call, does}
+use Rattle.rules.specs.Calls.{Call}
 use Rattle.rules.specs.Calls.Call.{start, step, begin, rebalance}
 
 -- a call with its report, or a number that the tables then show
@@ -26,11 +27,12 @@ abbrev pub says : Line → Said
 says (reports c r) = heard r
 says (shows v n) = seen n
 
--- what the rules say, from the tables on
-unfoldable pub runs : Tables → List Line → List Said
-runs s [] = []
-runs s (reports c r ∷ l) = let o = does limits s c in heard (o .report) ∷ runs (o .tables) l
-runs s (shows v n ∷ l) = seen (v s) ∷ runs s l
+-- what calls that are done in some way say, from the tables on
+module _ (done : Sizes → Tables → Call → Outcome) where
+  unfoldable pub runs : Tables → List Line → List Said
+  runs s [] = []
+  runs s (reports c r ∷ l) = let o = done limits s c in heard (o .report) ∷ runs (o .tables) l
+  runs s (shows v n ∷ l) = seen (v s) ∷ runs s l
 
 -- the tables have the shape
 abbrev pub shaped : Line
@@ -42,7 +44,7 @@ unfoldable pub moves : ℕ → ℕ → List Line
 moves n zero = []
 moves n (suc many) = reports (step n) report.Moved ∷ moves n many
 
--- an operation of the task that finishes with the answer at the step of that number, and no earlier
+-- an operation of the task whose step of that number is its first not to move on, and reports that: its answer, or why it restarts
 abbrev pub finishes : ℕ → ℕ → ℕ → ℕ → ℕ → ℕ → Report → List Line
 finishes n op k a f steps answer = reports (start n op k a f) report.Moved ∷ moves n (steps - 1) ++ reports (step n) answer ∷ shaped ∷ []
 
@@ -193,5 +195,29 @@ lost =
     ∷ shaped
     ∷ []
 
+-- and one for each function of compute beside M5's: the larger of value and amount, either way round, and bitwise or (12 with 10 is 14)
+abbrev pub functions : List Line
+functions =
+    m2
+    ++ finishes 0 compute 5 60 2 5 report.True
+    ++ finishes 0 get 5 0 0 4 (report.Value 60)
+    ++ finishes 0 compute 5 40 2 5 report.True
+    ++ finishes 0 get 5 0 0 4 (report.Value 60)
+    ++ finishes 0 put 5 12 0 5 report.Done
+    ++ finishes 0 compute 5 10 3 5 report.True
+    ++ finishes 0 get 5 0 0 4 (report.Value 14)
+
+-- upsert on an absent key stores its argument, whatever its function; on a present one it applies the function to the value and that argument
+abbrev pub upserts : List Line
+upserts =
+    finishes 0 upsert 5 12 3 9 report.Done
+    ++ finishes 0 get 5 0 0 4 (report.Value 12)
+    ++ finishes 0 upsert 5 10 3 5 report.Done
+    ++ finishes 0 get 5 0 0 4 (report.Value 14)
+    ++ finishes 0 upsert 5 3 2 5 report.Done
+    ++ finishes 0 get 5 0 0 4 (report.Value 14)
+    ++ finishes 0 upsert 5 (2 ^ 64 - 1) 1 5 report.Done
+    ++ finishes 0 get 5 0 0 4 (report.Value 13)
+
 abbrev pub markedCases : List (List Line)
-markedCases = m1 ∷ m2 ∷ m3 ∷ m4 ∷ m5 ∷ m6 ∷ m7 ∷ m8 ∷ m9 ∷ m10 ∷ m10two ∷ m11 ∷ m12 ∷ lost ∷ []
+markedCases = m1 ∷ m2 ∷ m3 ∷ m4 ∷ m5 ∷ m6 ∷ m7 ∷ m8 ∷ m9 ∷ m10 ∷ m10two ∷ m11 ∷ m12 ∷ lost ∷ functions ∷ upserts ∷ []

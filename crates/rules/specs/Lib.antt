@@ -1,6 +1,7 @@
 pub mod Words
 pub mod Told
 pub mod Tables
+pub mod Layout
 pub mod Walks
 pub mod Stages
 pub mod Rebalance
@@ -9,3 +10,5 @@ pub mod Calls
 pub mod Occasions
 pub mod Map
 pub mod Cases
+pub mod Unbroken
+pub mod Broken

@@ -16,10 +16,13 @@ pub record Pair : Type 0 where
 abbrev pub pair : ℕ → ℕ → Pair
 pair k v = record { key = k; value = v }
 
--- the keys ascend strictly, from k on
-unfoldable pub Ascends : ℕ → List Pair → Type 0
-Ascends k [] = Unit
-Ascends k (x ∷ m) = (k ≤ x .key) × Ascends (x .key + 1) m
+abbrev pub pairKey : Pair → ℕ
+pairKey x = x .key
+
+-- the members' keys ascend strictly, from k on
+unfoldable pub Ascends : {A : Type 0} → (A → ℕ) → ℕ → List A → Type 0
+Ascends key k [] = Unit {0}
+Ascends key k (x ∷ l) = (k ≤ key x) × Ascends key (key x + 1) l
 
 -- the value under the key
 unfoldable pub lookup : List Pair → ℕ → Option ℕ

@@ -9,7 +9,7 @@ use Rattle.rules.specs.declared.Sizes.{Sizes}
 use Rattle.rules.specs.declared.Task.{Task}
 use Rattle.rules.specs.declared.Entry.{Entry}
 use Rattle.rules.specs.declared.Report.the-variants as report
-use Rattle.rules.specs.Words.{pick, _and_, _or_, scan, usesFunction, idle}
+use Rattle.rules.specs.Words.{pick, _and_, _or_, handleNo, scan, usesFunction, idle}
 use Rattle.rules.specs.Tables.{Tables, idleTask, task, putTask}
 use Rattle.rules.specs.Walks.{free}
 use Rattle.rules.specs.Rebalance.{Outcome, unusedCount}
@@ -32,7 +32,7 @@ among a b n = leb a n and leb n b
 -- none of the handles below h is free
 unfoldable pub noneFree : List Entry → List Task → ℕ → Bool
 noneFree es ts zero = true
-noneFree es ts (suc h) = let below = noneFree es ts h in not (free es ts h) and below
+noneFree es ts (suc h) = let below = noneFree es ts h in not (free es ts (handleNo h)) and below
 
 module _ (z : Sizes) (s : Tables) where
   -- 1: task number 8 or more; 2: start on a task at work; 5: operation not 1 to 7, or, for upsert and compute, function not 1 to 3; 4: scan with lower end above the upper;
@@ -65,7 +65,7 @@ refusal [] = 0
 refusal (x ∷ l) = let on = refusal l in pick (x .when) (x .number) on
 
 -- "Each returns its number only and changes nothing, save 9: the task becomes idle, entries stay": the outcome of a call whose refusal is n, 0 where it has none
-pub record Answers (s : Tables) (c : Call) (n : ℕ) (o : Outcome) : Type 0 where
+pub record RefusedBy (s : Tables) (c : Call) (n : ℕ) (o : Outcome) : Type 0 where
   pub returns : n ≢ 0 → o .report ≡ report.Refused n
   pub accepts : n ≡ 0 → (m : ℕ) → o .report ≡ report.Refused m → ⊥
   pub leaves : n ≢ 0 → n ≢ 9 → o .tables ≡ s

@@ -13,7 +13,7 @@ use Rattle.rules.specs.declared.ChunkNo.{ChunkNo}
 use Rattle.rules.specs.declared.EntryNo.{EntryNo}
 use Rattle.rules.specs.declared.HandleNo.{HandleNo}
 use Rattle.rules.specs.Words.{pick, _and_, _or_, NONE, chunkNo, entryNo, noChunk, noEntry, unused, live, new, retired, get, put, putIfAbsent, upsert, compute, remove, scan, usesFunction, idle, toDrain, toCopy, toSwap, toRelease}
-use Rattle.rules.specs.Tables.{Tables, idleTask, emptyChunk, emptyEntry, task, chunk, chunkAt, entry, entryAt}
+use Rattle.rules.specs.Tables.{Tables, idleTask, emptyChunk, emptyEntry, task, chunk, chunkAt, entry, entryAt, mark}
 use Rattle.rules.specs.Rebalance.{unusedCount}
 
 -- ---- tests on lists
@@ -55,7 +55,7 @@ pub record Hold : Type 0 where
   pub published : ℕ
   pub swapped : ℕ
 
--- 0 holds it never, 1 always, 2 perhaps
+-- 0 holds it never, 1 always, 2 perhaps; 3, of an old handle: always, and it is deleted
 abbrev pub hold : ℕ → ℕ → ℕ → ℕ → ℕ → ℕ → Hold
 hold c e o n p w = record { chunk = c; entry = e; old = o; new = n; published = p; swapped = w }
 
@@ -65,12 +65,16 @@ stageList =
     ∷ hold 1 1 1 0 0 0 ∷ hold 1 1 1 0 0 0 ∷ hold 1 0 0 0 0 0 ∷ hold 1 1 0 0 0 0
     ∷ hold 1 1 2 0 0 0 ∷ hold 1 1 2 1 0 0 ∷ hold 1 1 2 1 0 0 ∷ hold 1 1 2 1 1 0
     ∷ hold 1 1 2 1 1 2 ∷ hold 1 1 1 0 0 0 ∷ hold 1 1 1 0 1 0 ∷ hold 1 1 1 0 1 2
-    ∷ hold 0 0 1 0 0 0 ∷ hold 1 0 1 0 0 0 ∷ hold 1 1 1 0 0 0 ∷ hold 1 1 1 0 0 0
-    ∷ hold 1 1 1 0 1 0 ∷ hold 1 1 1 0 1 0 ∷ hold 0 0 0 0 0 0 ∷ []
+    ∷ hold 0 0 3 0 0 0 ∷ hold 1 0 3 0 0 0 ∷ hold 1 1 3 0 0 0 ∷ hold 1 1 3 0 0 0
+    ∷ hold 1 1 3 0 1 0 ∷ hold 1 1 3 0 1 0 ∷ hold 0 0 0 0 0 0 ∷ []
 
 -- a number is held as the list says: never: none; always: of its table; perhaps: either
 abbrev pub heldAs : ℕ → ℕ → ℕ → Bool
-heldAs how size n = pick (eqb how 0) (isNone n) (pick (eqb how 1) (ltb n size) (numbers size n))
+heldAs how size n = pick (eqb how 0) (isNone n) (pick (eqb how 2) (numbers size n) (ltb n size))
+
+-- a held old handle's mark is 1 where the list says a deleted one
+abbrev pub markAs : ℕ → ℕ → Bool
+markAs how m = pick (eqb how 3) (eqb m 1) true
 
 abbrev pub flagAs : ℕ → ℕ → Bool
 flagAs how n = pick (eqb how 2) (leb n 1) (eqb n how)
@@ -159,6 +163,7 @@ module _ (z : Sizes) (s : Tables) where
       and heldAs (h .new) (z .handles) (t .new .0)
       and flagAs (h .published) (t .published)
       and flagAs (h .swapped) (t .swapped)
+      and markAs (h .old) (mark s (t .old))
       and pick (eqb (h .chunk) 0) true (ltb 0 (chunk s (t .chunk) .status))
       and pick (eqb (h .entry) 0) true there
 

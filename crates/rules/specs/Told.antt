@@ -1,7 +1,10 @@
 -- The number and the values of every report (document 01: "a definition gives this paper's number and values for every one of its cases").
 use Prim.Native.Nat.{ℕ}
+use mathlib.Core.Bool.{Bool}
+use lib.Dec.{leb}
 use Rattle.rules.specs.declared.Report.{Report}
 use Rattle.rules.specs.declared.Report.the-variants.{Moved, Frozen, Full, Lost, Pair, Value, Absent, Done, True, False, Waiting, Finished, Refused}
+use Rattle.rules.specs.Words.{_and_}
 
 -- which case it is, and its two values, 0 where it has none
 pub record Told : Type 0 where
@@ -27,3 +30,7 @@ told True = tells 9 0 0
 told False = tells 10 0 0
 told Waiting = tells 11 0 0
 told Finished = tells 12 0 0
+
+-- "finished with an answer": a value, absent, done, true or false
+abbrev pub isAnswer : Report → Bool
+isAnswer r = leb 6 (told r .number) and leb (told r .number) 10

@@ -1,8 +1,7 @@
 -- What the tables say: which chunk has a key, which entry of it, what is present, which handle is free (document 01, "What the tables hold").
 -- A walk takes the table that it walks. It has as many steps as its list may have members, and a number past the table ends it, as none does.
-use Prim.Native.Nat.{ℕ, zero, suc, _+_, _<_}
+use Prim.Native.Nat.{ℕ, zero, suc, _+_, _≤_, _<_}
 use mathlib.Core.Path.{_≡_}
-use mathlib.Core.Option.{Option, none, some}
 use mathlib.Core.Bool.{Bool, true, false, not}
 use mathlib.Core.List.{List, [], _∷_, List·Memᴰ}
 use lib.Dec.{eqb, ltb, leb}
@@ -32,6 +31,16 @@ module _ (z : Sizes) (cs : List Chunk) where
   beforeFrom (suc fuel) c x =
       let on = beforeFrom fuel (chunkAt cs c .next) x in
       pick (eqb (chunkAt cs c .next .0) (x .0)) c (pick (ltb (chunkAt cs c .next .0) (z .chunks)) on noChunk)
+
+  -- the chunks from c on, along next
+  unfoldable pub chainFrom : ℕ → ChunkNo → List ChunkNo
+  chainFrom zero c = []
+  chainFrom (suc fuel) c = let on = c ∷ chainFrom fuel (chunkAt cs c .next) in pick (ltb (c .0) (z .chunks)) on []
+
+-- "A live chunk's range runs from its minimum key up to, not including, the next live chunk's": the key lies in it
+pub record InRange (z : Sizes) (cs : List Chunk) (c : ChunkNo) (k : ℕ) : Type 0 where
+  pub from : chunkAt cs c .min ≤ k
+  pub to : chunkAt cs c .next .0 < z .chunks → k < chunkAt cs (chunkAt cs c .next) .min
 
 -- ---- along a chunk's list
 module _ (z : Sizes) (es : List Entry) (c : ChunkNo) where
@@ -69,28 +78,32 @@ module _ (z : Sizes) (es : List Entry) (ms : List ℕ) (c : ChunkNo) (from to : 
       noEntry
 
 -- ---- which handle is free
-unfoldable pub namedIn : List Entry → ℕ → Bool
+unfoldable pub namedIn : List Entry → HandleNo → Bool
 namedIn [] h = false
-namedIn (x ∷ l) h = let on = namedIn l h in pick (eqb (x .handle .0) h) true on
+namedIn (x ∷ l) h = let on = namedIn l h in pick (eqb (x .handle .0) (h .0)) true on
 
-unfoldable pub heldIn : List Task → ℕ → Bool
+unfoldable pub heldIn : List Task → HandleNo → Bool
 heldIn [] h = false
-heldIn (t ∷ l) h = let on = heldIn l h in pick (eqb (t .old .0) h or eqb (t .new .0) h) true on
+heldIn (t ∷ l) h = let on = heldIn l h in pick (eqb (t .old .0) (h .0) or eqb (t .new .0) (h .0)) true on
 
 -- "free exactly when no entry of a live, new or retired chunk names it and no task holds it": an unused chunk's rows name none
-abbrev pub free : List Entry → List Task → ℕ → Bool
+abbrev pub free : List Entry → List Task → HandleNo → Bool
 free es ts h = let held = heldIn ts h in not (pick (namedIn es h) true held)
 
 -- "Taking a handle takes the lowest free number": of those from h on, or none
 unfoldable pub freeFrom : List Entry → List Task → ℕ → ℕ → HandleNo
 freeFrom es ts zero h = noHandle
-freeFrom es ts (suc left) h = let on = freeFrom es ts left (h + 1) in pick (free es ts h) (handleNo h) on
+freeFrom es ts (suc left) h = let on = freeFrom es ts left (h + 1) in pick (free es ts (handleNo h)) (handleNo h) on
 
 -- ---- the same of all the tables
 module _ (z : Sizes) (s : Tables) where
   -- the live chunk whose range has the key
   abbrev pub locate : ℕ → ChunkNo
   locate k = locateFrom z (s .chunks) (z .chunks) (s .directory .first) k
+
+  -- the live chunks, in order
+  abbrev pub chain : List ChunkNo
+  chain = chainFrom z (s .chunks) (z .chunks) (s .directory .first)
 
   abbrev pub linked : ChunkNo → List EntryNo
   linked c = listFrom z (s .entries) c (z .entries) (chunk s c .head)
@@ -117,11 +130,3 @@ pub record Present (z : Sizes) (s : Tables) (k v : ℕ) : Type 0 where
   pub keyed : entryAt z (s .entries) chunk entry .key ≡ k
   pub isUndeleted : undeleted z (s .marks) (entryAt z (s .entries) chunk entry .handle) ≡ true
   pub valued : value s (entryAt z (s .entries) chunk entry .handle) ≡ v
-
--- the same by looking: the value under the key, where the chunk that has it shows one
-unfoldable pub presentAt : Sizes → Tables → ℕ → Option ℕ
-presentAt z s k =
-    let c = locate z s k in
-    let x = entryAt z (s .entries) c (find z s c k) in
-    let seen = pick (undeleted z (s .marks) (x .handle)) (some (value s (x .handle))) none in
-    pick (ltb (find z s c k .0) (z .entries)) seen none

@@ -12,7 +12,7 @@ use Rattle.rules.specs.declared.Task.{Task}
 use Rattle.rules.specs.declared.Decision.{Decision}
 use Rattle.rules.specs.declared.Report.the-variants as report
 use Rattle.rules.specs.Words.{scan}
-use Rattle.rules.specs.Told.{Told, tells, told}
+use Rattle.rules.specs.Told.{Told, tells, told, isAnswer}
 use Rattle.rules.specs.Tables.{task}
 use Rattle.rules.specs.Walks.{Present}
 use Rattle.rules.specs.Stages
@@ -20,21 +20,20 @@ use Rattle.rules.specs.Rebalance.{Outcome}
 use Rattle.rules.specs.Calls.{Call, calls}
 use Rattle.rules.specs.Calls.Call.{step}
 use Rattle.rules.specs.Map.{lookup}
-use Rattle.facts.specs.Facts.{Limited}
-use Rattle.facts.specs.Simulates.{decides}
-use Rattle.simulation.proofs.Simulating.{simulates}
-use Rattle.history.specs.Runs.{tablesAt, mapAt, reportAt, taskAt, Working}
+use Rattle.statements.specs.Sound.{Limited}
+use Rattle.statements.specs.Runs.{decides, tablesAt, mapAt, reportAt, taskAt, Working}
+use Rattle.simulation.proofs.Simulating.{beside-shows}
+use Rattle.facts.proofs.Reaching.{reached-kept, run-reached}
 use Rattle.history.specs.Turns.{Turn, Steps, Came}
-use Rattle.history.specs.Answers.{isAnswer, NeverDecides}
-use Rattle.history.proofs.Runs.{run-beside, run-kept, run-turns, row-next, earlier, came}
-use Rattle.scans.specs.Scans.{GivesAt, During, Given, Scans}
+use Rattle.statements.specs.Answers.{NeverDecides, GivesAt, During, Given, ScansAt}
+use Rattle.history.proofs.Runs.{run-beside, run-turns, row-next, earlier, came}
 use Rattle.scans.specs.Scanned.{Clear, Always, Scanning, Scanned}
 use Rattle.scans.proofs.Steps.{scan-by}
 
 module _ (z : Sizes) (lim : Limited z) (run : ℕ → Call) where
   -- what is present the map has
   shown : (i q v : ℕ) → Present z (tablesAt z run i) q v → lookup (mapAt z run i) q ≡ some v
-  shown i q v p = simulates z lim .shows (tablesAt z run i) (mapAt z run i) (run-beside z run i) q v .0 p
+  shown i q v p = beside-shows z lim (run-beside z run i) q v .0 p
 
   -- a key that is not absent is present with a value
   found : {A : Type 0} (i q : ℕ) → lookup (mapAt z run i) q ≢ none → ((v : ℕ) → Present z (tablesAt z run i) q v → A) → A
@@ -42,7 +41,7 @@ module _ (z : Sizes) (lim : Limited z) (run : ℕ → Call) where
     where
       go : (o : Option ℕ) → lookup (mapAt z run i) q ≡ o → A
       go none e = absurd (there e)
-      go (some v) e = f v (simulates z lim .shows (tablesAt z run i) (mapAt z run i) (run-beside z run i) q v .1 e)
+      go (some v) e = f v (beside-shows z lim (run-beside z run i) q v .1 e)
 
   module _ (n : ℕ) where
     -- moment i of a step of the task is one of its moments
@@ -59,7 +58,7 @@ module _ (z : Sizes) (lim : Limited z) (run : ℕ → Call) where
     -- ---- a step of a scan
     module _ (i : ℕ) (stage : row i .stage ≡ 22) where
       scanning : Scanning z (tablesAt z run i) (row i) (decision i)
-      scanning = scan-by z lim (tablesAt z run i) (run-kept z run lim i) (row i) stage
+      scanning = scan-by z lim (tablesAt z run i) (reached-kept z lim (run-reached z run i)) (row i) stage
 
       -- the task's step is one at work
       stepped : run i ≡ step n → Steps z (tablesAt z run i) (run i) n
@@ -144,7 +143,7 @@ module _ (z : Sizes) (lim : Limited z) (run : ℕ → Call) where
                     | yes e ↦ record { at = i; value = v; since = after; before = omega arith; gives = record { own = b .call; pair = rw e (reports i (h .stage) (b .call) is) } }
                     | no ne ↦ found i p (here p always) (λ w present. absurd (ne (only p w present le lt (rw (h .argument) up))))
                   ]
-          go (Scanning.passes c is le clear) = rises i c h (next is) le (gives is) (λ p low lt up always. found i p (here p always) (λ w present. absurd (clear p w present low lt (rw (h .argument) up))))
+          go (Scanning.passes c is lt clear) = rises i c h (next is) (omega (arith, lt)) (gives is) (λ p low lt up always. found i p (here p always) (λ w present. absurd (clear p w present low lt (rw (h .argument) up))))
           go (Scanning.ends is _) = absurd (busy (ap (λ (t : Task). t .stage) (row-next z run lim n i ∙ next is)))
 
       -- ---- at every moment of a scan at work
@@ -175,6 +174,20 @@ module _ (z : Sizes) (lim : Limited z) (run : ℕ → Call) where
 
       ascending : (x p q v u : ℕ) → j < x → x < i → GivesAt z run n x p v → GivesAt z run n i q u → p < q
       ascending x p q v u since lt g g′ = le-trans (h .below x p v since lt g) (gave-now q u g′ .from)
+
+      cursor-rises : run i ≡ step n → isAnswer (reportAt z run i) ≡ false → row i .key < row (suc i) .key
+      cursor-rises own quiet = go (scanning i (h .stage))
+        where
+          said : {x : Decision} → decision i ≡ x → isAnswer (x .report) ≡ false
+          said is = rw (reports i (h .stage) own is) at quiet
+
+          then : {x : Decision} → decision i ≡ x → row (suc i) .key ≡ x .task .key
+          then is = ap (λ (t : Task). t .key) (row-next z run lim n i ∙ stepped i (h .stage) own .row) ∙ ap (λ (x : Decision). x .task .key) is
+
+          go : Scanning z (tablesAt z run i) (row i) (decision i) → row i .key < row (suc i) .key
+          go (Scanning.gives _ _ _ is _ from _ lt _) = omega (arith, then is, from, lt)
+          go (Scanning.passes _ is lt _) = omega (arith, then is, lt)
+          go (Scanning.ends is _) = absurd (false≢true (sym (said is)))
 
       undeciding : decides z (tablesAt z run i) (row i) ≡ false
       undeciding = rw (h .stage) refl
@@ -209,14 +222,15 @@ module _ (z : Sizes) (lim : Limited z) (run : ℕ → Call) where
     never-decides : (k a f j i : ℕ) → Working z run n scan k a f j i → NeverDecides z run n j i
     never-decides k a f j i w x since le d = false≢true (sym (undeciding k a f j x (earlier z run lim n w x since le)) ∙ d .deciding)
 
-pub scans : (z : Sizes) → Limited z → Scans z
-scans z lim =
+pub scans : (z : Sizes) → Limited z → (run : ℕ → Call) (n k a f j i : ℕ) → Working z run n scan k a f j i → run i ≡ step n → ScansAt z run n k a j i
+scans z lim run n k a f j i w own =
     record {
-      present = is-present z lim;
-      ranged = is-ranged z lim;
-      ascends = ascending z lim;
-      complete = completes z lim;
-      absent = λ run n k a f j i w _. unseen z lim run n k a f j i w;
-      answers = λ run n k a f j i w own answered. ended z lim run n k a f j i w own answered .done;
-      unchanged = never-decides z lim;
+      present = is-present z lim run n k a f j i w;
+      ranged = is-ranged z lim run n k a f j i w;
+      ascends = ascending z lim run n k a f j i w;
+      rises = cursor-rises z lim run n k a f j i w own;
+      complete = completes z lim run n k a f j i w own;
+      absent = unseen z lim run n k a f j i w;
+      answers = λ answered. ended z lim run n k a f j i w own answered .done;
+      unchanged = never-decides z lim run n k a f j i w;
     }

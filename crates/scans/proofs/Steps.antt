@@ -17,15 +17,15 @@ use Rattle.rules.specs.declared.ChunkNo.{ChunkNo}
 use Rattle.rules.specs.declared.EntryNo.{EntryNo}
 use Rattle.rules.specs.Words.{_and_}
 use Rattle.rules.specs.Tables.{Tables, chunk, entry, value}
-use Rattle.rules.specs.Walks.{locate, linked, undeleted, firstPresent, Present}
+use Rattle.rules.specs.Walks.{locate, linked, undeleted, firstPresent, Present, InRange}
 use Rattle.rules.specs.Stages
 use Rattle.laws.specs.Counts.{Every}
 use Rattle.laws.proofs.EachStage.{at-stage}
 use Rattle.laws.proofs.Tests.{picked, and-left, and-right}
-use Rattle.views.specs.Views.{Links, InRange}
+use Rattle.views.specs.Views.{Links}
 use Rattle.views.proofs.Entries.{links-length}
-use Rattle.facts.specs.Facts.{Limited, Kept}
-use Rattle.facts.specs.RangesCover.{Live}
+use Rattle.statements.specs.Sound.{Limited, Live}
+use Rattle.facts.specs.Facts.{Kept}
 use Rattle.facts.proofs.Covering.{covers, only}
 use Rattle.scans.specs.Scanned.{shows, Clear, Scanning}
 use Rattle.scans.proofs.First.{FirstOf, first-hit, first-miss}
@@ -116,7 +116,7 @@ module _ (z : Sizes) (lim : Limited z) (s : Tables) (kept : Kept z s) (t : Task)
   scans-by =
       picked By (leb (t .argument) (t .key)) (λ o. Scanning.ends refl (λ q v p le lt. beyond o q le lt))
       (λ _. picked By (ltb (e₀ .0) (z .entries)) (λ i. let j = ltb-true (e₀ .0) (z .entries) i in Scanning.gives _ _ _ refl (hit-present z lim s kept (t .key) (t .argument) j) (hit-from z lim s kept (t .key) (t .argument) j) (hit-to z lim s kept (t .key) (t .argument) j) (omega arith) (hit-only j _ (omega arith)))
-      (λ o. picked By (ltb (chunk s c₀ .next .0) (z .chunks)) (λ i. passing (ltb-false _ _ o) (ltb-true _ _ i)) (λ n. ending (ltb-false _ _ o) (ltb-false _ _ n))))
+      (λ o. picked By (ltb (chunk s c₀ .next .0) (z .chunks)) (λ i. Scanning.passes _ refl (before (ltb-true _ _ i)) (λ q v p le lt up. missed z lim s kept (t .key) (t .argument) (ltb-false _ _ o) q v p le (λ _. lt) up)) (λ n. ending (ltb-false _ _ o) (ltb-false _ _ n))))
     where
       c₀ : ChunkNo
       c₀ = locate z s (t .key)
@@ -131,8 +131,9 @@ module _ (z : Sizes) (lim : Limited z) (s : Tables) (kept : Kept z s) (t : Task)
       beyond : leb (t .argument) (t .key) ≡ true → (q : ℕ) → t .key ≤ q → q < t .argument → ⊥
       beyond o q le lt = omega (arith, leb-true (t .argument) (t .key) o, le, lt)
 
-      passing : z .entries ≤ e₀ .0 → chunk s c₀ .next .0 < z .chunks → By (Stages.moves (Stages.cursorAt t (chunk s (chunk s c₀ .next) .min)) write.Nothing)
-      passing o i = Scanning.passes _ refl (omega (arith, covers z lim s kept (t .key) .1 .to i)) (λ q v p le lt up. missed z lim s kept (t .key) (t .argument) o q v p le (λ _. lt) up)
+      -- the cursor lies below the next chunk
+      before : chunk s c₀ .next .0 < z .chunks → t .key < chunk s (chunk s c₀ .next) .min
+      before i = covers z lim s kept (t .key) .1 .to i
 
       ending : z .entries ≤ e₀ .0 → z .chunks ≤ chunk s c₀ .next .0 → By (Stages.finishes write.Nothing report.Done)
       ending o n = Scanning.ends refl (λ q v p le up. missed z lim s kept (t .key) (t .argument) o q v p le (λ i. absurd (out i)) up)

@@ -1,2 +1,1 @@
-pub mod Scans
 pub mod Scanned

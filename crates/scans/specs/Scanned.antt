@@ -20,8 +20,8 @@ use Rattle.rules.specs.Walks.{undeleted, Present}
 use Rattle.rules.specs.Stages.{cursorAt, moves, finishes}
 use Rattle.rules.specs.Calls.{Call}
 use Rattle.rules.specs.Map.{lookup}
-use Rattle.history.specs.Runs.{mapAt}
-use Rattle.scans.specs.Scans.{GivesAt, During, Given}
+use Rattle.statements.specs.Answers.{GivesAt, During, Given}
+use Rattle.statements.specs.Runs.{mapAt}
 
 -- the entry has a key from..to (to left out) and names an undeleted handle
 abbrev pub shows : Sizes → List Entry → List ℕ → ChunkNo → ℕ → ℕ → EntryNo → Bool
@@ -38,7 +38,7 @@ Always z run n j i q = (p : ℕ) → During z run n j i p → lookup (mapAt z ru
 -- a scan's step gives a pair, the only one from its cursor to its next, or goes on to a cursor past none, or ends
 pub data Scanning (z : Sizes) (s : Tables) (t : Task) (x : Decision) : Type 0 where
   gives : (q v k : ℕ) → x ≡ record { task = cursorAt t k; write = write.Nothing; report = report.Pair q v } → Present z s q v → t .key ≤ q → q < t .argument → q < k → ((p w : ℕ) → Present z s p w → t .key ≤ p → p < k → p < t .argument → p ≡ q) → Scanning z s t x
-  passes : (k : ℕ) → x ≡ moves (cursorAt t k) write.Nothing → t .key ≤ k → ((q v : ℕ) → Present z s q v → t .key ≤ q → q < k → q < t .argument → ⊥) → Scanning z s t x
+  passes : (k : ℕ) → x ≡ moves (cursorAt t k) write.Nothing → t .key < k → ((q v : ℕ) → Present z s q v → t .key ≤ q → q < k → q < t .argument → ⊥) → Scanning z s t x
   ends : x ≡ finishes write.Nothing report.Done → Clear z s (t .key) (t .argument) → Scanning z s t x
 
 -- of a scan from k to a that call j started on task n, with that row at moment i

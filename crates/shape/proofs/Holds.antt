@@ -1,7 +1,7 @@
 -- What a task holds: the table of stages is the stage list, and the rule taken apart as the code tests it.
 use Prim.Native.Nat.{ℕ, zero, suc, _+_, _<_}
-use mathlib.Core.Path.{_≡_, refl, ap}
-use mathlib.Core.Bool.{Bool, true, false}
+use mathlib.Core.Path.{_≡_, refl, ap, _∙_}
+use mathlib.Core.Bool.{Bool, true, false, _&&_}
 use mathlib.Core.List.{List, [], _∷_, map}
 use native.Mathlib.Omega.{arith}
 use lib.Dec.{eqb, ltb}
@@ -10,11 +10,11 @@ use borrow.Author.Tests.{eqb-true, eqb-false, ltb-true, ne-eqb}
 use Rattle.rules.specs.declared.Sizes.{Sizes}
 use Rattle.rules.specs.declared.Task.{Task}
 use Rattle.rules.specs.Words.{pick}
-use Rattle.rules.specs.Tables.{Tables, chunk}
-use Rattle.rules.specs.Shape.{each, Hold, hold, stageList, heldAs, flagAs, holdsEntry, holdsRight}
+use Rattle.rules.specs.Tables.{Tables, chunk, mark}
+use Rattle.rules.specs.Shape.{each, Hold, hold, stageList, heldAs, markAs, flagAs, holdsEntry, holdsRight}
 use Rattle.shape.specs.declared.stages.Holds.{Holds}
 use Rattle.shape.specs.Parts.{holdOf, ofHold, entryWithChunk, numbersRight, Listed}
-use Rattle.shape.proofs.Tests.{and-and, and-left, and-right}
+use Rattle.shape.proofs.Tests.{and-and, and-left, and-right, both-fail, both-hold}
 
 -- ---- the table
 each-at : {A : Type 0} (p : A → Bool) (d : A) → p d ≡ true → (l : List A) (i : ℕ) → each (λ n x. p x) i l ≡ true → (n : ℕ) → p (getD l n d) ≡ true
@@ -48,7 +48,11 @@ module _ (h : Holds) (p : entryWithChunk h ≡ true) where
 
 -- ---- the rule taken apart
 module _ (z : Sizes) (s : Tables) (t : Task) (h : Hold) where
-  pub holds-split : holdsRight z s t h ≡ pick (numbersRight z t h) (pick (pick (eqb (h .chunk) 0) true (ltb 0 (chunk s (t .chunk) .status))) (pick (eqb (h .entry) 0) true (holdsEntry z s t)) false) false
+  -- what is left to ask, once the numbers, the flags and the mark are seen to be right
+  abbrev pub left : Bool
+  left = pick (pick (eqb (h .chunk) 0) true (ltb 0 (chunk s (t .chunk) .status))) (pick (eqb (h .entry) 0) true (holdsEntry z s t)) false
+
+  holds-split : holdsRight z s t h ≡ pick (numbersRight z t h) (pick (markAs (h .old) (mark s (t .old))) left false) false
   holds-split =
       split
       (heldAs (h .chunk) (z .chunks) (t .chunk .0))
@@ -61,6 +65,14 @@ module _ (z : Sizes) (s : Tables) (t : Task) (h : Hold) where
     where
       split : (a b c d e f g : Bool) → pick a (pick b (pick c (pick d (pick e (pick f g false) false) false) false) false) false ≡ pick (pick a (pick b (pick c (pick d (pick e f false) false) false) false) false) g false
       split a b c d e f g = simp and-and
+
+  -- the two tests as the code made them
+  module _ (numbered marked : Bool) (n : numbered ≡ numbersRight z t h) (m : marked ≡ markAs (h .old) (mark s (t .old))) where
+    pub holds-fails : numbered && marked ≡ false → holdsRight z s t h ≡ false
+    holds-fails q = holds-split ∙ rw (← n, ← m) (both-fail numbered marked left q)
+
+    pub holds-on : numbered && marked ≡ true → holdsRight z s t h ≡ left
+    holds-on q = holds-split ∙ rw (← n, ← m) (both-hold numbered marked left q)
 
 module _ (z : Sizes) (t : Task) (h : Hold) (n : numbersRight z t h ≡ true) where
   pub held-chunk : h .chunk ≡ 1 → t .chunk .0 < z .chunks

@@ -12,7 +12,7 @@ use Rattle.rules.specs.Words.{pick}
 use Rattle.rules.specs.Shape.{each, sized, chunkRight, chained, taskRight, rebalanceFits, shape}
 use Rattle.rows.specs.Rows.{directoryOf, taskOf, chunkOf, entryOf, taskRows, chunkRows, entryRows, tables, Lent}
 use Rattle.rows.proofs.Laws.{length-rows}
-use Rattle.shape.specs.Parts.{kept, listed, headed}
+use Rattle.shape.specs.Parts.{asked, listed, headed}
 
 module _ (z : Sizes) (d ts cs es vs ms : List ℕ) (lent : Lent z d ts cs es vs ms) where
   sized-lent : sized z (tables z d ts cs es vs ms) ≡ true
@@ -25,6 +25,6 @@ module _ (z : Sizes) (d ts cs es vs ms : List ℕ) (lent : Lent z d ts cs es vs 
         eq-eqb (length ms) (z .handles) (lent .marks),
       )
 
-  pub shape-is : (x : Directory) → x ≡ directoryOf d → shape z (tables z d ts cs es vs ms) ≡ pick (each (λ n m. leb m 1) 0 ms) (pick (ltb (x .first .0) (z .chunks)) (pick (each (chunkRight z (listed z es)) 0 (chunkRows (z .chunks) cs)) (pick (chained z (headed z x cs)) (pick (each (taskRight z (kept z cs es)) 0 (taskRows (z .tasks) ts)) (rebalanceFits z (headed z x cs)) false) false) false) false) false
+  pub shape-is : (x : Directory) → x ≡ directoryOf d → shape z (tables z d ts cs es vs ms) ≡ pick (each (λ n m. leb m 1) 0 ms) (pick (ltb (x .first .0) (z .chunks)) (pick (each (chunkRight z (listed z es)) 0 (chunkRows (z .chunks) cs)) (pick (chained z (headed z x cs)) (pick (each (taskRight z (asked z cs es ms)) 0 (taskRows (z .tasks) ts)) (rebalanceFits z (headed z x cs)) false) false) false) false) false
   unfolding shape
   shape-is x q = rw (q, sized-lent)

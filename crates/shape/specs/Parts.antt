@@ -17,9 +17,13 @@ use Rattle.rules.specs.Shape.{each, isEmptyChunk, chunkNumbers, Hold, hold, sta
 use Rattle.shape.specs.declared.stages.Holds.{Holds}
 use Rattle.rows.specs.Rows.{tables, chunkRows}
 
--- tables of which the chunks and the entries alone are asked
+-- tables of which the chunks, the entries and the marks alone are asked
+abbrev pub asked : Sizes → List ℕ → List ℕ → List ℕ → Tables
+asked z cs es ms = tables z [] [] cs es [] ms
+
+-- of which the chunks and the entries alone are asked
 abbrev pub kept : Sizes → List ℕ → List ℕ → Tables
-kept z cs es = tables z [] [] cs es [] []
+kept z cs es = asked z cs es []
 
 -- of which the entries alone are asked, or nothing
 abbrev pub listed : Sizes → List ℕ → Tables

@@ -12,7 +12,7 @@ use tasks::tasks_right;
 ghost use mathlib.Core.Path.{_≡_};
 ghost use lib.Dec.{leb};
 ghost use Rattle.rules.specs.Shape.{each, shape};
-ghost use Rattle.rows.specs.Rows.{tables, Lent};
+ghost use Rattle.rows.specs.Rows.{asLent, Lends};
 
 // The tables have the shape.
 pub fn has_shape(
@@ -24,8 +24,8 @@ pub fn has_shape(
     values: &[u64],
     marks: &[u64],
 ) -> bool
-    requires { ⌜ Lent z (now directory) (now tasks) (now chunks) (now entries) (now values) (now marks) ⌝ }
-    ensures { λ r. ⌜ r ≡ shape z (tables z (now (directory .entry)) (now (tasks .entry)) (now (chunks .entry)) (now (entries .entry)) (now (values .entry)) (now (marks .entry))) ⌝ }
+    requires { ⌜ Lends z directory tasks chunks entries values marks ⌝ }
+    ensures { λ r. ⌜ r ≡ shape z (asLent z directory tasks chunks entries values marks) ⌝ }
 {
     let d = rows::directory_row(directory);
     if !marks_right(marks) {
@@ -40,7 +40,7 @@ pub fn has_shape(
     if !chain_right(z, chunks, d) {
         return false;
     }
-    if !tasks_right(z, tasks, chunks, entries) {
+    if !tasks_right(z, tasks, chunks, entries, marks) {
         return false;
     }
     rebalance_fits(z, chunks, d)

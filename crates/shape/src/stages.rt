@@ -1,7 +1,7 @@
 // The stage list as a table: what each of the 23 stages must hold and may hold (document 01, "Stages of a task").
 ghost use Rattle.shape.specs.Parts.{Listed};
 
-// What a stage holds of each: 0 never, 1 always, 2 perhaps.
+// What a stage holds of each: 0 never, 1 always, 2 perhaps; 3, of an old handle: always, and it is deleted.
 pub struct Holds {
     pub chunk: u8,
     pub entry: u8,
@@ -161,7 +161,7 @@ const STAGES: [Holds; 23] = [
     Holds {
         chunk: 0,
         entry: 0,
-        old: 1,
+        old: 3,
         new: 0,
         published: 0,
         swapped: 0,
@@ -170,7 +170,7 @@ const STAGES: [Holds; 23] = [
     Holds {
         chunk: 1,
         entry: 0,
-        old: 1,
+        old: 3,
         new: 0,
         published: 0,
         swapped: 0,
@@ -179,7 +179,7 @@ const STAGES: [Holds; 23] = [
     Holds {
         chunk: 1,
         entry: 1,
-        old: 1,
+        old: 3,
         new: 0,
         published: 0,
         swapped: 0,
@@ -188,7 +188,7 @@ const STAGES: [Holds; 23] = [
     Holds {
         chunk: 1,
         entry: 1,
-        old: 1,
+        old: 3,
         new: 0,
         published: 0,
         swapped: 0,
@@ -197,7 +197,7 @@ const STAGES: [Holds; 23] = [
     Holds {
         chunk: 1,
         entry: 1,
-        old: 1,
+        old: 3,
         new: 0,
         published: 1,
         swapped: 0,
@@ -206,7 +206,7 @@ const STAGES: [Holds; 23] = [
     Holds {
         chunk: 1,
         entry: 1,
-        old: 1,
+        old: 3,
         new: 0,
         published: 1,
         swapped: 0,

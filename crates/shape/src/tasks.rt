@@ -4,16 +4,17 @@ use crate::stages::Holds;
 use crate::stages::stage_holds;
 use rules::ChunkNo;
 use rules::EntryNo;
+use rules::HandleNo;
 use rules::NONE;
 use rules::Sizes;
 use rules::Task;
 ghost use mathlib.Core.Path.{_≡_};
 ghost use mathlib.Core.Bool.{true};
 ghost use Prim.Native.Nat.{_*_};
-ghost use lib.ListN.{length};
-ghost use Rattle.rules.specs.Shape.{each, heldAs, flagAs, fitsOperation, linkedFrom, isIdle, holdsEntry, holdsRight, taskRight};
+ghost use lib.ListN.{length, getD};
+ghost use Rattle.rules.specs.Shape.{each, heldAs, markAs, flagAs, fitsOperation, linkedFrom, isIdle, holdsEntry, holdsRight, taskRight};
 ghost use Rattle.rows.specs.Rows.{taskRows, entryRows};
-ghost use Rattle.shape.specs.Parts.{kept, functionRight, numbersRight, holdOf, entryWithChunk, Long, Held, Slots};
+ghost use Rattle.shape.specs.Parts.{asked, kept, functionRight, numbersRight, holdOf, entryWithChunk, Long, Held, Slots};
 
 // A number is held as the list says.
 fn held(how: u8, size: usize, n: u64) -> bool
@@ -22,10 +23,20 @@ fn held(how: u8, size: usize, n: u64) -> bool
     if how == 0 {
         return n == NONE;
     }
-    if how == 1 {
-        return (n as usize) < size;
+    if how == 2 {
+        return in_table(size, n);
     }
-    in_table(size, n)
+    (n as usize) < size
+}
+
+// The old handle is deleted where the list says so.
+fn marked(how: u8, marks: &[u64], h: HandleNo) -> bool
+    ensures { λ r. ⌜ r ≡ markAs how (getD (now (marks .entry)) (h .0) 0) ⌝ }
+{
+    if how == 3 {
+        return rows::word_at(marks, h) == 1;
+    }
+    true
 }
 
 // A flag is set as the list says.
@@ -126,11 +137,11 @@ fn numbers_right(z: Sizes, t: Task, h: Holds) -> bool
 }
 
 // The task holds what the row says.
-fn holds_right(z: Sizes, chunks: &[u64], entries: &[u64], t: Task, h: Holds) -> bool
+fn holds_right(z: Sizes, chunks: &[u64], entries: &[u64], marks: &[u64], t: Task, h: Holds) -> bool
     requires { ⌜ Long z (now chunks) (now entries) × (entryWithChunk h ≡ true) ⌝ }
-    ensures { λ r. ⌜ r ≡ holdsRight z (kept z (now (chunks .entry)) (now (entries .entry))) t (holdOf h) ⌝ }
+    ensures { λ r. ⌜ r ≡ holdsRight z (asked z (now (chunks .entry)) (now (entries .entry)) (now (marks .entry))) t (holdOf h) ⌝ }
 {
-    if !numbers_right(z, t, h) {
+    if !(numbers_right(z, t, h) & marked(h.old, marks, t.old)) {
         return false;
     }
     if h.chunk == 0 {
@@ -147,9 +158,9 @@ fn holds_right(z: Sizes, chunks: &[u64], entries: &[u64], t: Task, h: Holds) -> 
 }
 
 // A task is idle, or its stage fits its operation and holds what the list says.
-fn task_right(z: Sizes, chunks: &[u64], entries: &[u64], t: Task) -> bool
+fn task_right(z: Sizes, chunks: &[u64], entries: &[u64], marks: &[u64], t: Task) -> bool
     requires { ⌜ Long z (now chunks) (now entries) ⌝ }
-    ensures { λ r. ⌜ r ≡ taskRight z (kept z (now (chunks .entry)) (now (entries .entry))) 0 t ⌝ }
+    ensures { λ r. ⌜ r ≡ taskRight z (asked z (now (chunks .entry)) (now (entries .entry)) (now (marks .entry))) 0 t ⌝ }
 {
     if t.stage == 0 {
         return is_idle(t);
@@ -161,19 +172,25 @@ fn task_right(z: Sizes, chunks: &[u64], entries: &[u64], t: Task) -> bool
         return false;
     }
     let h = stage_holds(t.stage);
-    holds_right(z, chunks, entries, t, h)
+    holds_right(z, chunks, entries, marks, t, h)
 }
 
 // Every task.
-pub(crate) fn tasks_right(z: Sizes, tasks: &[u64], chunks: &[u64], entries: &[u64]) -> bool
+pub(crate) fn tasks_right(
+    z: Sizes,
+    tasks: &[u64],
+    chunks: &[u64],
+    entries: &[u64],
+    marks: &[u64],
+) -> bool
     requires { ⌜ (length (now tasks) ≡ z .tasks * 11) × Long z (now chunks) (now entries) ⌝ }
-    ensures { λ r. ⌜ r ≡ each (taskRight z (kept z (now (chunks .entry)) (now (entries .entry)))) 0 (taskRows (z .tasks) (now (tasks .entry))) ⌝ }
+    ensures { λ r. ⌜ r ≡ each (taskRight z (asked z (now (chunks .entry)) (now (entries .entry)) (now (marks .entry)))) 0 (taskRows (z .tasks) (now (tasks .entry))) ⌝ }
 {
     let size = z.tasks;
     let mut i = 0;
     while i < size {
         let t = rows::task_row(tasks, i);
-        if !task_right(z, chunks, entries, t) {
+        if !task_right(z, chunks, entries, marks, t) {
             return false;
         }
         i += 1;

@@ -20,7 +20,8 @@ use Rattle.rules.specs.Map.{Pair, insert, delete, effect, onAbsent, onPresent}
 use Rattle.laws.proofs.EachStage.{each-stage}
 use Rattle.laws.proofs.Tests.{picked, pick-of, pick-same, or-cases}
 use Rattle.facts.specs.Facts.{Holds, holdAt, Tasked}
-use Rattle.facts.specs.Simulates.{decides, changeAnswer}
+use Rattle.statements.specs.Runs.{decides}
+use Rattle.simulation.specs.Beside.{changeAnswer}
 use Rattle.facts.proofs.Numbers.{holding}
 use Rattle.facts.proofs.Operations.{fits-test}
 use Rattle.handles.specs.Owned.{Row}

@@ -10,6 +10,8 @@ use native.Mathlib.Omega.{arith}
 use lib.Dec.{leb}
 use lib.ListN.{length, getD, set, take, drop}
 use borrow.Author.Tests.{leb-false}
+use Rattle.rules.specs.Map.{Ascends}
+use Rattle.views.specs.Copies.{entryKey, filled}
 use Rattle.rules.specs.declared.Sizes.{Sizes}
 use Rattle.rules.specs.declared.Chunk.{Chunk}
 use Rattle.rules.specs.declared.Entry.{Entry}
@@ -23,11 +25,11 @@ use Rattle.rules.specs.Rebalance.{Outcome, unusedFrom, namingFrom, makes, at, c
 use Rattle.rules.specs.Shape.{numbers}
 use Rattle.laws.specs.Counts.{Every}
 use Rattle.laws.proofs.Tests.{picked}
-use Rattle.views.specs.Copies.{Rising, filled}
 use Rattle.views.proofs.Copies.{fill-is, filled-rows, filled-in}
 use Rattle.views.proofs.Entries.{links-length}
 use Rattle.views.proofs.Naming.{take-drop-in, naming-in, naming-every, every-take, every-drop}
-use Rattle.facts.specs.Facts.{Limited, Kept}
+use Rattle.statements.specs.Sound.{Limited}
+use Rattle.facts.specs.Facts.{Kept}
 use Rattle.facts.proofs.Putting.{Based}
 use Rattle.facts.proofs.Writes.{inside}
 use Rattle.facts.proofs.Making
@@ -46,7 +48,7 @@ pub record Fills (z : Sizes) (first : ChunkNo) (cs : List Chunk) (es : List Entr
   pub inside : c .0 < z .chunks
   pub empty : chunkAt cs c .status ≡ unused
   pub short : length l ≤ z .entries
-  pub rising : Rising 0 l
+  pub rising : Ascends entryKey 0 l
   pub handles : Every (λ x. numbers (z .handles) (x .handle .0) ≡ true) l
 
 module _ (z : Sizes) (lim : Limited z) (first : ChunkNo) (cs : List Chunk) (es : List Entry) (c : ChunkNo) (min : ℕ) (l : List Entry) (fills : Fills z first cs es c l) where

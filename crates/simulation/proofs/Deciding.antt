@@ -18,13 +18,15 @@ use Rattle.rules.specs.declared.Write.the-variants as write
 use Rattle.rules.specs.Words.{pick, live}
 use Rattle.rules.specs.Tables.{Tables, chunk, entry, value, task}
 use Rattle.rules.specs.Stages
-use Rattle.rules.specs.Map.{Pair, Ascends, lookup, insert, delete, Effect, effect, sequential}
+use Rattle.rules.specs.Map.{Pair, pairKey, Ascends, lookup, insert, delete, Effect, effect, sequential}
 use Rattle.map.proofs.Laws.{lookup-insert, lookup-delete}
 use Rattle.map.proofs.Sequential.{on-absent, on-present, sequential-other}
 use Rattle.laws.proofs.Tests.{picked}
 use Rattle.views.proofs.Rows.{entry-put}
-use Rattle.facts.specs.Facts.{Limited, EntryHeld, Kept}
-use Rattle.facts.specs.Simulates.{decides, changeAnswer}
+use Rattle.statements.specs.Sound.{Limited}
+use Rattle.facts.specs.Facts.{EntryHeld, Kept}
+use Rattle.statements.specs.Runs.{decides}
+use Rattle.simulation.specs.Beside.{changeAnswer}
 use Rattle.handles.proofs.Owning.{OwnedBy}
 use Rattle.holds.specs.Held.{Held}
 use Rattle.holds.specs.Marked.{Marked}
@@ -118,7 +120,7 @@ module _ (z : Sizes) (lim : Limited z) (s : Tables) (kept : Kept z s) (own : Own
   old-present : t .old .0 < z .handles → getD (s .marks) (t .old .0) 0 ≡ 0 → PresentBy z s (t .key) (value s (t .old))
   old-present b q = record { handle = t .old .0; inside = b; named = lively .old-live n b q; undeleted = q; valued = refl }
 
-  module _ (m : List Pair) (sim : Sim z s m) (ascends : Ascends 0 m) where
+  module _ (m : List Pair) (sim : Sim z s m) (ascends : Ascends pairKey 0 m) where
     abbrev pub then-done : Effect
     then-done = sequential m (t .operation) (t .key) (t .argument) (t .function)
 

@@ -22,12 +22,13 @@ use Rattle.rules.specs.Calls.{Call, starts, steps, does, calls}
 use Rattle.rules.specs.Calls.Call.{start, step, begin, rebalance}
 use Rattle.laws.proofs.Tests.{picked}
 use Rattle.views.proofs.Copies.{clears-is}
-use Rattle.facts.specs.Facts.{Limited, Allowed, Kept}
+use Rattle.statements.specs.Sound.{Limited}
+use Rattle.facts.specs.Facts.{Allowed, Kept}
 use Rattle.facts.specs.Reached.{Reached}
 use Rattle.facts.proofs.Applying.{applied-by}
 use Rattle.facts.proofs.Ends.{decides-fine}
 use Rattle.facts.proofs.Swapping
-use Rattle.facts.proofs.Reaching.{calls-does, reached-kept}
+use Rattle.facts.proofs.Reaching.{call-by, reached-kept}
 use Rattle.holds.specs.Held.{Held}
 use Rattle.holds.specs.Unlinked.{UnlinkedNone}
 use Rattle.holds.proofs.Holding.{reached-held}
@@ -154,12 +155,9 @@ module _ (z : Sizes) (lim : Limited z) (s : Tables) (kept : Kept z s) (held : He
       Q f = CopiedIn (f z s .tables)
 
 module _ (z : Sizes) (lim : Limited z) where
-  call-copied : (s : Tables) → Kept z s → Held z s → UnlinkedNone z (s .chunks) (s .entries) → CopiedThen z (s .directory) (s .entries) → (c : Call) → CopiedThen z (calls z s c .tables .directory) (calls z s c .tables .entries)
-  call-copied s kept held un copied c = rw (calls-does z lim s kept c) (does-copied z lim s kept held un copied c)
-
   pub reached-copied : {s : Tables} → Reached z s → CopiedThen z (s .directory) (s .entries)
   reached-copied Reached.started = λ e. absurd (early e)
     where
       early : _≡_ {A = ℕ} 0 3 → ⊥
       early e = omega arith
-  reached-copied (Reached.called {s = s₀} r c) = call-copied s₀ (reached-kept z lim r) (reached-held z lim r) (reached-unlinked z lim r) (reached-copied r) c
+  reached-copied (Reached.called {s = s₀} r c) = call-by z s₀ c (λ x. CopiedThen z (x .directory) (x .entries)) (reached-copied r) (does-copied z lim s₀ (reached-kept z lim r) (reached-held z lim r) (reached-unlinked z lim r) (reached-copied r) c)

@@ -23,13 +23,14 @@ use Rattle.rules.specs.Rebalance.{Outcome, begins}
 use Rattle.rules.specs.Calls.{Call, fresh, started, starts, steps, does, calls}
 use Rattle.rules.specs.Calls.Call.{start, step, begin, rebalance}
 use Rattle.laws.proofs.Tests.{picked}
-use Rattle.facts.specs.Facts.{Limited, Allowed, Kept}
+use Rattle.statements.specs.Sound.{Limited}
+use Rattle.facts.specs.Facts.{Allowed, Kept}
 use Rattle.facts.specs.Reached.{Reached}
-use Rattle.facts.specs.Simulates.{decides}
+use Rattle.statements.specs.Runs.{decides}
 use Rattle.facts.proofs.Applying.{Applied, applied-by}
 use Rattle.facts.proofs.Ends.{decides-fine}
 use Rattle.facts.proofs.Fresh.{getD-all}
-use Rattle.facts.proofs.Reaching.{calls-does, reached-kept}
+use Rattle.facts.proofs.Reaching.{call-by, reached-kept}
 use Rattle.handles.specs.Owned.{NamedUnder, Sourced}
 use Rattle.handles.proofs.Naming.{sourced-back}
 use Rattle.handles.proofs.Free.{free-unnamed, free-unheld}
@@ -203,9 +204,6 @@ module _ (z : Sizes) (lim : Limited z) where
         old-live = λ n i. absurd (none _ i (ap (λ (t : Task). t .old .0) (getD-all (z .tasks) n idleTask)));
       }
 
-  call-lively : (s : Tables) → Kept z s → Lively z s → OwnedBy z s → Held z s → Marked z s → UnlinkedNone z (s .chunks) (s .entries) → CopiedThen z (s .directory) (s .entries) → (c : Call) → Lively z (calls z s c .tables)
-  call-lively s kept lively own held marked un copied c = rw (calls-does z lim s kept c) (does-lively z lim s kept lively own held marked un copied c)
-
   pub reached-lively : {s : Tables} → Reached z s → Lively z s
   reached-lively Reached.started = fresh-lively
-  reached-lively (Reached.called {s = s₀} r c) = call-lively s₀ (reached-kept z lim r) (reached-lively r) (reached-owned z lim r) (reached-held z lim r) (reached-marked z lim r) (reached-unlinked z lim r) (reached-copied z lim r) c
+  reached-lively (Reached.called {s = s₀} r c) = call-by z s₀ c (Lively z) (reached-lively r) (does-lively z lim s₀ (reached-kept z lim r) (reached-lively r) (reached-owned z lim r) (reached-held z lim r) (reached-marked z lim r) (reached-unlinked z lim r) (reached-copied z lim r) c)

@@ -24,7 +24,8 @@ use Rattle.laws.proofs.Tests.{picked}
 use Rattle.views.specs.Copies.{cleared}
 use Rattle.views.proofs.Rows.{chunk-either}
 use Rattle.views.proofs.Copies.{clears-is, cleared-other}
-use Rattle.facts.specs.Facts.{Limited, Rebalancing, Kept}
+use Rattle.statements.specs.Sound.{Limited}
+use Rattle.facts.specs.Facts.{Rebalancing, Kept}
 use Rattle.facts.proofs.Writes.{same-chunk}
 use Rattle.facts.proofs.Swapping
 use Rattle.facts.proofs.Swapping.{beforeOld}

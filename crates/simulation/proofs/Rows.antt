@@ -25,8 +25,9 @@ use Rattle.rules.specs.Walks.{lowestFree}
 use Rattle.rules.specs.Stages
 use Rattle.laws.proofs.Tests.{picked}
 use Rattle.views.proofs.Rows.{entry-put}
-use Rattle.facts.specs.Facts.{Limited, Waits, Allowed, Kept}
-use Rattle.facts.specs.Simulates.{decides}
+use Rattle.statements.specs.Sound.{Limited}
+use Rattle.facts.specs.Facts.{Waits, Allowed, Kept}
+use Rattle.statements.specs.Runs.{decides}
 use Rattle.handles.specs.Owned.{Row, NamedUnder}
 use Rattle.handles.proofs.Free.{free-unnamed}
 use Rattle.handles.proofs.Owning.{OwnedBy}

@@ -16,16 +16,16 @@ use Rattle.rules.specs.declared.EntryNo.{EntryNo}
 use Rattle.rules.specs.declared.HandleNo.{HandleNo}
 use Rattle.rules.specs.Words.{_and_, live}
 use Rattle.rules.specs.Tables.{Tables, chunk, entry, value}
-use Rattle.rules.specs.Walks.{locate, find, linked, undeleted, Present, presentAt}
+use Rattle.rules.specs.Walks.{locate, find, linked, undeleted, Present}
 use Rattle.laws.proofs.Tests.{picked, both, and-left, and-right}
 use Rattle.views.specs.Views.{Links}
 use Rattle.views.proofs.Entries.{find-hit, find-miss, links-length}
-use Rattle.facts.specs.Facts.{Limited, Kept}
-use Rattle.facts.specs.RangesCover.{Live}
+use Rattle.statements.specs.Sound.{Limited, Live}
+use Rattle.facts.specs.Facts.{Kept}
 use Rattle.facts.proofs.Writes.{inside}
 use Rattle.facts.proofs.Covering.{covers, only, rows-one}
 use Rattle.holds.specs.Unlinked.{UnlinkedNone}
-use Rattle.simulation.specs.Named.{LiveNamed, PresentBy}
+use Rattle.simulation.specs.Named.{presentAt, LiveNamed, PresentBy}
 
 module _ (z : Sizes) (lim : Limited z) (s : Tables) (kept : Kept z s) (un : UnlinkedNone z (s .chunks) (s .entries)) where
   alive : {h k : ℕ} (v : LiveNamed z (s .chunks) (s .entries) h k) → Live z s (v .chunk)

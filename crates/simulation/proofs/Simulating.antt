@@ -3,7 +3,8 @@ use Prim.Native.Nat.{ℕ, _*_}
 use mathlib.Core.Bool.{true}
 use mathlib.Core.Path.{_≡_, refl, sym, ap}
 use mathlib.Core.List.{List, []}
-use mathlib.Core.Option.{Option, none, some, Option·none-ne-some}
+use mathlib.Core.Logic.{_↔_}
+use mathlib.Core.Option.{some, Option·none-ne-some}
 use native.Mathlib.Omega.{arith}
 use lib.Dec.{eqb, ltb, leb}
 use borrow.Author.Tests.{lt-ltb, le-ltb, leb-true, leb-false, eqb-true}
@@ -12,18 +13,21 @@ use Rattle.rules.specs.declared.Task.{Task}
 use Rattle.rules.specs.declared.Entry.{Entry}
 use Rattle.rules.specs.Words.{_and_, _or_, usesFunction, scan}
 use Rattle.rules.specs.Tables.{Tables, emptyEntry, row, task, withTasks}
-use Rattle.rules.specs.Walks.{presentAt}
+use Rattle.rules.specs.Walks.{Present}
 use Rattle.rules.specs.Rebalance.{Outcome, begins}
 use Rattle.rules.specs.Calls.{Call, fresh, started, starts, steps, does, calls}
 use Rattle.rules.specs.Calls.Call.{start, step, begin, rebalance}
-use Rattle.rules.specs.Map.{Pair, Ascends, lookup, sequential}
+use Rattle.rules.specs.Map.{Pair, pairKey, Ascends, lookup, sequential}
 use Rattle.map.proofs.Sequential.{sequential-ascends}
 use Rattle.laws.proofs.Tests.{picked}
-use Rattle.facts.specs.Facts.{Limited, Kept}
+use Rattle.statements.specs.Sound.{Limited}
+use Rattle.facts.specs.Facts.{Kept}
 use Rattle.facts.specs.Reached.{Reached}
-use Rattle.facts.specs.Simulates.{decides, mapThen, Beside, changeAnswer, Simulates}
+use Rattle.statements.specs.Runs.{decides, mapThen}
+use Rattle.simulation.specs.Beside.{Beside, changeAnswer}
 use Rattle.facts.proofs.Fresh.{getD-all}
-use Rattle.facts.proofs.Reaching.{does-kept, calls-does, reached-kept}
+use Rattle.facts.proofs.Reaching.{does-kept, reached-kept}
+use Rattle.holds.proofs.Shaped.{calls-does}
 use Rattle.handles.proofs.Handing.{rebalance-tasks, begin-tasks}
 use Rattle.handles.proofs.Keys.{reached-owned}
 use Rattle.holds.specs.Unlinked.{UnlinkedNone}
@@ -35,7 +39,7 @@ use Rattle.simulation.proofs.Copied.{SameLive}
 use Rattle.simulation.proofs.Keeping.{reached-copied}
 use Rattle.simulation.proofs.Moving.{begin-moves, rebalance-moves}
 use Rattle.simulation.proofs.Living.{reached-lively}
-use Rattle.simulation.proofs.Showing.{present-to, present-from, looked-up, shown-at}
+use Rattle.simulation.proofs.Showing.{present-to, present-from}
 use Rattle.simulation.proofs.Deciding.{Sim, step-sim, step-changes}
 
 -- tables whose live chunks name the same, with the same handles' records
@@ -49,14 +53,9 @@ moved-sim z s x m live vs ms sim k v = (λ e. on (sim k v .0 e), λ p. sim k v .
     back p = record { handle = p .handle; inside = p .inside; named = live .from (p .handle) k (p .inside) (p .named); undeleted = rw ms at (p .undeleted); valued = rw vs at (p .valued) }
 
 -- two that have the same values are one
-same-option : (o p : Option ℕ) → ((v : ℕ) → o ≡ some v → p ≡ some v) → ((v : ℕ) → p ≡ some v → o ≡ some v) → o ≡ p
-same-option none none f g = refl
-same-option none (some w) f g = g w refl
-same-option (some v) p f g = sym (f v refl)
-
 module _ (z : Sizes) (lim : Limited z) where
   -- ---- a call
-  module _ (s : Tables) (r : Reached z s) (m : List Pair) (sim : Sim z s m) (ascends : Ascends 0 m) where
+  module _ (s : Tables) (r : Reached z s) (m : List Pair) (sim : Sim z s m) (ascends : Ascends pairKey 0 m) where
     kept : Kept z s
     kept = reached-kept z lim r
 
@@ -90,11 +89,11 @@ module _ (z : Sizes) (lim : Limited z) where
     does-sim rebalance = λ _ _. moved-sim z s (does z s rebalance .tables) m (rebalance-moves z lim s kept (reached-owned z lim r) (reached-held z lim r) (reached-unlinked z lim r) (reached-copied z lim r) .0) (rebalance-tasks z s .1) (rebalance-tasks z s .2) sim
 
     call-sim : (c : Call) → Sim z (calls z s c .tables) (mapThen z s c m)
-    call-sim c = rw (calls-does z lim s kept c) (does-sim c (does-kept z lim s kept c) (does-unlinked z lim s kept (reached-unlinked z lim r) c))
+    call-sim c = rw (calls-does z lim s r c) (does-sim c (does-kept z lim s kept c) (does-unlinked z lim s kept (reached-unlinked z lim r) c))
 
-    call-ascends : (c : Call) → Ascends 0 (mapThen z s c m)
+    call-ascends : (c : Call) → Ascends pairKey 0 (mapThen z s c m)
     call-ascends (start n op k a f) = ascends
-    call-ascends (step n) = let t = task s n in picked (Ascends 0) (ltb n (z .tasks) and decides z s t) (λ _. sequential-ascends m (t .operation) (t .key) (t .argument) (t .function) 0 (omega arith) ascends) (λ _. ascends)
+    call-ascends (step n) = let t = task s n in picked (Ascends pairKey 0) (ltb n (z .tasks) and decides z s t) (λ _. sequential-ascends m (t .operation) (t .key) (t .argument) (t .function) 0 (omega arith) ascends) (λ _. ascends)
     call-ascends (begin k) = ascends
     call-ascends rebalance = ascends
 
@@ -109,7 +108,7 @@ module _ (z : Sizes) (lim : Limited z) where
       never : PresentBy z (fresh z) k v → ⊥
       never p = omega (arith, lim .handles, p .inside, p .named .named .names, ap (λ (y : Entry). y .handle .0) (getD-all (z .chunks * z .entries) (row z (p .named .chunk) (p .named .named .entry)) emptyEntry))
 
-  fresh-ascends : Ascends 0 []
+  fresh-ascends : Ascends pairKey 0 []
   unfolding Ascends
   fresh-ascends = tt
 
@@ -117,21 +116,14 @@ module _ (z : Sizes) (lim : Limited z) where
   beside-reached Beside.started = Reached.started
   beside-reached (Beside.called b c) = Reached.called (beside-reached b) c
 
-  pub beside-holds : {s : Tables} {m : List Pair} → Beside z s m → Sim z s m × Ascends 0 m
+  pub beside-holds : {s : Tables} {m : List Pair} → Beside z s m → Sim z s m × Ascends pairKey 0 m
   beside-holds Beside.started = (fresh-sim, fresh-ascends)
   beside-holds (Beside.called {s = s₀} {m = m₀} b c) = let o = beside-holds b in (call-sim s₀ (beside-reached b) m₀ (o .0) (o .1) c, call-ascends s₀ (beside-reached b) m₀ (o .0) (o .1) c)
 
-  pub simulates : Simulates z
-  simulates =
-      record {
-        shows = λ s m b k v. (λ p. beside-holds b .0 k v .1 (present-to z lim s (kept-of b) (un-of b) p), λ e. present-from z lim s (kept-of b) (un-of b) (beside-holds b .0 k v .0 e));
-        present = λ s m b k. same-option (lookup m k) (presentAt z s k) (λ v e. shown-at z lim s (kept-of b) (un-of b) k v (beside-holds b .0 k v .0 e)) (λ v e. beside-holds b .0 k v .1 (looked-up z lim s (kept-of b) (un-of b) k v e));
-        ascends = λ s m b. beside-holds b .1;
-        changes = λ s m b. call-changes s (beside-reached b) m (beside-holds b .0) (beside-holds b .1);
-      }
-    where
-      kept-of : {s : Tables} {m : List Pair} → Beside z s m → Kept z s
-      kept-of b = reached-kept z lim (beside-reached b)
+  -- the map's pairs are the present keys with their values
+  pub beside-shows : {s : Tables} {m : List Pair} → Beside z s m → (k v : ℕ) → Present z s k v ↔ (lookup m k ≡ some v)
+  beside-shows {s} b k v = (λ p. beside-holds b .0 k v .1 (present-to z lim s (reached-kept z lim (beside-reached b)) (reached-unlinked z lim (beside-reached b)) p), λ e. present-from z lim s (reached-kept z lim (beside-reached b)) (reached-unlinked z lim (beside-reached b)) (beside-holds b .0 k v .0 e))
 
-      un-of : {s : Tables} {m : List Pair} → Beside z s m → UnlinkedNone z (s .chunks) (s .entries)
-      un-of b = reached-unlinked z lim (beside-reached b)
+  -- at a deciding step the sequential map answers as to a change: never false, absent or a value, the answers that change nothing
+  pub beside-changes : {s : Tables} {m : List Pair} → Beside z s m → (n : ℕ) → decides z s (task s n) ≡ true → sequential m (task s n .operation) (task s n .key) (task s n .argument) (task s n .function) .answer ≡ changeAnswer (task s n .operation)
+  beside-changes {s} {m} b = call-changes s (beside-reached b) m (beside-holds b .0) (beside-holds b .1)

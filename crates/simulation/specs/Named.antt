@@ -3,6 +3,8 @@ use Prim.Native.Nat.{ℕ, _<_}
 use mathlib.Core.Path.{_≡_}
 use mathlib.Core.Logic.{_⊎_}
 use mathlib.Core.List.{List}
+use mathlib.Core.Option.{Option, none, some}
+use lib.Dec.{ltb}
 use lib.ListN.{getD}
 use Rattle.rules.specs.declared.Sizes.{Sizes}
 use Rattle.rules.specs.declared.Directory.{Directory}
@@ -10,8 +12,9 @@ use Rattle.rules.specs.declared.Chunk.{Chunk}
 use Rattle.rules.specs.declared.Entry.{Entry}
 use Rattle.rules.specs.declared.ChunkNo.{ChunkNo}
 use Rattle.rules.specs.declared.EntryNo.{EntryNo}
-use Rattle.rules.specs.Words.{live, toSwap}
-use Rattle.rules.specs.Tables.{Tables, chunkAt, entryAt, task}
+use Rattle.rules.specs.Words.{pick, live, toSwap}
+use Rattle.rules.specs.Tables.{Tables, chunkAt, entryAt, value, task}
+use Rattle.rules.specs.Walks.{locate, find, undeleted}
 use Rattle.handles.specs.Owned.{NamedUnder}
 
 -- an entry of the chunk names the handle, under the key
@@ -35,6 +38,14 @@ pub record PresentBy (z : Sizes) (s : Tables) (k v : ℕ) : Type 0 where
   pub named : LiveNamed z (s .chunks) (s .entries) handle k
   pub undeleted : getD (s .marks) handle 0 ≡ 0
   pub valued : getD (s .values) handle 0 ≡ v
+
+-- the value under the key by looking, where the chunk that has it shows one
+unfoldable pub presentAt : Sizes → Tables → ℕ → Option ℕ
+presentAt z s k =
+    let c = locate z s k in
+    let x = entryAt z (s .entries) c (find z s c k) in
+    let seen = pick (undeleted z (s .marks) (x .handle)) (some (value s (x .handle))) none in
+    pick (ltb (find z s c k .0) (z .entries)) seen none
 
 -- copied: between copy and swap in the new chunks name what the old one names, under the same keys
 pub record Copied (z : Sizes) (d : Directory) (es : List Entry) : Type 0 where

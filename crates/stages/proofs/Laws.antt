@@ -36,9 +36,6 @@ module _ (n : ℕ) (z : Sizes) (t : Task) (held : Held z t) (e : t .stage ≡ n)
   both-held p q = record { chunk = chunk-held p; entry = held .entry (ap (λ (m : ℕ). getD stageList m (hold 0 0 0 0 0 0) .entry) e ∙ q) }
 
 -- a number by its bounds
-pub none-under : (n : ℕ) → n < 1 → n ≡ 0
-none-under n h = omega arith
-
 pub crossed : (k n : ℕ) → k ≤ n → n < k → ⊥
 crossed k n h l = omega arith
 

@@ -11,7 +11,7 @@ use rules::Task;
 ghost use mathlib.Core.Path.{_≡_};
 ghost use Prim.Native.Nat.{_<_};
 ghost use Rattle.rules.specs.Stages.{decide};
-ghost use Rattle.rows.specs.Rows.{Lent, directoryOf, tables};
+ghost use Rattle.rows.specs.Rows.{directoryOf, asLent, Lends};
 ghost use Rattle.stages.specs.Lengths.{Held};
 
 // The step looks at each of the 23 stage numbers.
@@ -25,11 +25,12 @@ pub fn decide(
     marks: &[u64],
     t: Task,
 ) -> Decision
-    requires { ⌜ Lent z (now directory) (now tasks) (now chunks) (now entries) (now values) (now marks) × Held z t × (t .stage < 23) × (directoryOf (now directory) .first .0 < z .chunks) ⌝ }
-    ensures { λ r. ⌜ r ≡ decide z (tables z (now (directory .entry)) (now (tasks .entry)) (now (chunks .entry)) (now (entries .entry)) (now (values .entry)) (now (marks .entry))) t ⌝ }
+    requires { ⌜ Lends z directory tasks chunks entries values marks × Held z t × (t .stage < 23) × (directoryOf (now directory) .first .0 < z .chunks) ⌝ }
+    ensures { λ r. ⌜ r ≡ decide z (asLent z directory tasks chunks entries values marks) t ⌝ }
 {
     let stage = t.stage;
     match stage {
+        0 => outcome::stays(t),
         1 | 16 => seek::locate(z, directory, chunks, t),
         2 => seek::find(z, chunks, entries, t),
         3 => seek::read(z, entries, t),

@@ -78,45 +78,44 @@ pub fn walk(
     ensures { λ r. ⌜ ((ts vs : List ℕ) → Walked z (tables z (now (directory .entry)) ts (now (chunks .entry)) (now (entries .entry)) vs (now (marks .entry))) from to (r .chunk) (r .entry)) ⌝ }
 {
     let d = rows::directory_row(directory);
-    let mut at = d.first.0;
+    let mut at = d.first;
     let mut left = z.chunks;
-    let mut found = NONE;
+    let mut found = EntryNo(NONE);
     'walk: loop {
-        let x = rows::chunk_at(z, chunks, ChunkNo(at));
+        let x = rows::chunk_at(z, chunks, at);
         if 0 < left {
             let next = x.next;
             if goes_on(z, chunks, next, from) {
-                at = next.0;
+                at = next;
                 left -= 1;
                 continue 'walk;
             }
         }
-        let mut e = x.head.0;
+        let mut e = x.head;
         let mut steps = z.entries;
         while 0 < steps {
-            let i = e as usize;
-            if z.entries <= i {
+            if z.entries <= e.0 as usize {
                 return Seen {
-                    chunk: ChunkNo(at),
+                    chunk: at,
                     entry: EntryNo(NONE),
                 };
             }
-            let y = rows::entry_at(z, entries, ChunkNo(at), EntryNo(e));
+            let y = rows::entry_at(z, entries, at, e);
             if gives(z, marks, y, from, to) {
                 found = e;
                 break 'walk;
             }
-            e = y.next.0;
+            e = y.next;
             steps -= 1;
         }
         return Seen {
-            chunk: ChunkNo(at),
+            chunk: at,
             entry: EntryNo(NONE),
         };
     }
     Seen {
-        chunk: ChunkNo(at),
-        entry: EntryNo(found),
+        chunk: at,
+        entry: found,
     }
 }
 

@@ -1,6 +1,7 @@
 -- Handles do not run out: of any handles at most so many are taken, and no insertion is refused one while fewer keys are present than promised.
-use Prim.Native.Nat.{ℕ, _≤_}
+use Prim.Native.Nat.{ℕ, _≤_, _<_}
 use mathlib.Core.Path.{_≡_, sym, ap, _∙_}
+use mathlib.Core.Logic.{_≢_}
 use mathlib.Core.Bool.{true, not}
 use mathlib.Core.List.{List, [], _∷_}
 use native.Mathlib.Nat.{le-refl}
@@ -15,21 +16,21 @@ use Rattle.rules.specs.Tables.{Tables, task}
 use Rattle.rules.specs.Shape.{shape}
 use Rattle.rules.specs.Calls.{calls}
 use Rattle.rules.specs.Calls.Call.{step}
-use Rattle.rules.specs.Occasions.{refusal, occasions, noneFree, Answers}
+use Rattle.rules.specs.Occasions.{refusal, occasions, noneFree, RefusedBy}
 use Rattle.rules.specs.Told.{told}
 use Rattle.rules.specs.Map.{Pair}
 use Rattle.rules.proofs.Free.{none-free}
 use Rattle.rules.proofs.Refusals.{refusals}
 use Rattle.laws.proofs.Tests.{picked, and-right}
-use Rattle.facts.specs.Facts.{Limited}
+use Rattle.statements.specs.Sound.{Limited, promised}
 use Rattle.facts.proofs.Reaching.{reached-kept}
 use Rattle.holds.proofs.Unlinked.{reached-unlinked}
 use Rattle.simulation.proofs.Keeping.{reached-copied}
 use Rattle.simulation.proofs.Living.{reached-lively}
 use Rattle.simulation.proofs.Simulating.{beside-reached, beside-holds}
+use Rattle.simulation.specs.Beside.{Beside}
 use Rattle.removers.proofs.Removing.{reached-removers}
 use Rattle.supply.specs.Counting.{oneOf, handleUnder, keysIn, TakenMost}
-use Rattle.supply.specs.Enough.{Enough}
 use Rattle.supply.proofs.Counting.{pigeonhole, below, below-in, below-apart, below-length}
 use Rattle.supply.proofs.Reasons.{reasons, reason, reasons-length}
 
@@ -38,7 +39,7 @@ none-left : (z : Sizes) (lim : Limited z) (s : Tables) (n : ℕ) → calls z s (
 unfolding refusal
 none-left z lim s n e = from (number (refusals z s (step n) (lim .handles)))
   where
-    number : Answers s (step n) (refusal (occasions z s (step n))) (calls z s (step n)) → refusal (occasions z s (step n)) ≡ 9
+    number : RefusedBy s (step n) (refusal (occasions z s (step n))) (calls z s (step n)) → refusal (occasions z s (step n)) ≡ 9
     number a = elim (ℕ-discrete (refusal (occasions z s (step n))) 0) [ yes q ↦ absurd (a .accepts q 9 e) | no ne ↦ ap (λ r. told r .first) (sym (a .returns ne) ∙ e) ]
 
     Left : ℕ → Type 0
@@ -69,11 +70,8 @@ module _ (z : Sizes) (lim : Limited z) where
             (λ h o. reason z lim s kept m hs (reached-unlinked z lim r) (reached-copied z lim r) (reached-lively z lim r) (beside-holds z lim b .0) (reached-removers z lim r .deleted-held) h o (taken h o)));
       }
 
-  pub enough : Enough z
-  enough =
-      record {
-        enough = λ s m b few n e.
-            let all = taken-most .taken-most s m b (below (z .handles)) (below-apart (z .handles))
-            (λ h o. record { inside = below-in (z .handles) h o; notFree = none-free (s .entries) (s .tasks) (z .handles) (none-left z lim s n e) h (below-in (z .handles) h o) }) in
-            omega (arith, all, few, below-length (z .handles), keys-most z s (below (z .handles)) m);
-      }
+  pub enough : (s : Tables) (m : List Pair) → Beside z s m → length m < promised z → (n : ℕ) → calls z s (step n) .report ≢ report.Refused 9
+  enough s m b few n e =
+      let all = taken-most .taken-most s m b (below (z .handles)) (below-apart (z .handles))
+      (λ h o. record { inside = below-in (z .handles) h o; notFree = none-free (s .entries) (s .tasks) (z .handles) (none-left z lim s n e) h (below-in (z .handles) h o) }) in
+      omega (arith, all, few, below-length (z .handles), keys-most z s (below (z .handles)) m)

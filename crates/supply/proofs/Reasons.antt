@@ -17,19 +17,19 @@ use Rattle.rules.specs.declared.Task.{Task}
 use Rattle.rules.specs.declared.Chunk.{Chunk}
 use Rattle.rules.specs.declared.Entry.{Entry}
 use Rattle.rules.specs.declared.ChunkNo.{ChunkNo}
-use Rattle.rules.specs.Words.{pick, _or_, NONE, chunkNo, entryNo, unused, live, new, toSwap, toRelease}
+use Rattle.rules.specs.Words.{pick, _or_, NONE, chunkNo, entryNo, unused, live, new, toSwap, toRelease, handleNo}
 use Rattle.rules.specs.Tables.{Tables, idleTask, emptyEntry, chunk, entry}
-use Rattle.rules.specs.Walks.{locate, find, linked, undeleted, presentAt, namedIn, heldIn, free}
+use Rattle.rules.specs.Walks.{locate, find, linked, undeleted, namedIn, heldIn, free}
 use Rattle.rules.specs.Map.{Pair, pair}
 use Rattle.map.proofs.Laws.{lookup-member}
 use Rattle.laws.proofs.Tests.{picked, by-test, or-cases}
 use Rattle.views.proofs.Entries.{find-hit}
-use Rattle.facts.specs.Facts.{Limited, ListRight, Kept, Roles}
-use Rattle.facts.specs.RangesCover.{Live}
+use Rattle.statements.specs.Sound.{Limited, Live}
+use Rattle.facts.specs.Facts.{ListRight, Kept, Roles}
 use Rattle.facts.proofs.Covering.{covers}
 use Rattle.handles.specs.Owned.{NamedUnder}
 use Rattle.holds.specs.Unlinked.{UnlinkedNone}
-use Rattle.simulation.specs.Named.{NamedIn, PresentBy, CopiedThen, Lively}
+use Rattle.simulation.specs.Named.{presentAt, NamedIn, PresentBy, CopiedThen, Lively}
 use Rattle.simulation.proofs.Deciding.{Sim}
 use Rattle.simulation.proofs.Showing.{row-named, shown-at}
 use Rattle.removers.specs.Removers.{DeletedHeld}
@@ -37,10 +37,10 @@ use Rattle.supply.specs.Counting.{oneOf, handleUnder, keysIn, Taken}
 use Rattle.supply.proofs.Counting.{below, in-below, below-length, at-in}
 
 -- ---- what the walks over rows and tasks have found
-named-row : (es : List Entry) (h : ℕ) → namedIn es h ≡ true → (i : ℕ) × (i < length es) × (getD es i emptyEntry .handle .0 ≡ h)
+named-row : (es : List Entry) (h : ℕ) → namedIn es (handleNo h) ≡ true → (i : ℕ) × (i < length es) × (getD es i emptyEntry .handle .0 ≡ h)
 unfolding namedIn
 named-row [] h e = absurd (false≢true e)
-named-row (x ∷ es) h e = ⊎-elim (λ q. (0, zero-lt-suc _, eqb-true _ _ q)) (λ q. let r = named-row es h q in (suc (r .0), suc-le-suc (r .1), r .2)) (or-cases (eqb (x .handle .0) h) (namedIn es h) e)
+named-row (x ∷ es) h e = ⊎-elim (λ q. (0, zero-lt-suc _, eqb-true _ _ q)) (λ q. let r = named-row es h q in (suc (r .0), suc-le-suc (r .1), r .2)) (or-cases (eqb (x .handle .0) h) (namedIn es (handleNo h)) e)
 
 abbrev olds : List Task → List ℕ
 olds ts = map (λ t. t .old .0) ts
@@ -48,16 +48,16 @@ olds ts = map (λ t. t .old .0) ts
 abbrev news : List Task → List ℕ
 news ts = map (λ t. t .new .0) ts
 
-held-in : (ts : List Task) (h : ℕ) → heldIn ts h ≡ true → List·Memᴰ h (olds ts) ⊎ List·Memᴰ h (news ts)
+held-in : (ts : List Task) (h : ℕ) → heldIn ts (handleNo h) ≡ true → List·Memᴰ h (olds ts) ⊎ List·Memᴰ h (news ts)
 unfolding heldIn
 held-in [] h e = absurd (false≢true e)
 held-in (t ∷ ts) h e =
     ⊎-elim (λ q. ⊎-map (λ o. List·Memᴰ·head (sym (eqb-true _ _ o))) (λ o. List·Memᴰ·head (sym (eqb-true _ _ o))) (or-cases (eqb (t .old .0) h) (eqb (t .new .0) h) q))
-    (λ q. ⊎-map List·Memᴰ·tail List·Memᴰ·tail (held-in ts h q)) (or-cases (eqb (t .old .0) h or eqb (t .new .0) h) (heldIn ts h) e)
+    (λ q. ⊎-map List·Memᴰ·tail List·Memᴰ·tail (held-in ts h q)) (or-cases (eqb (t .old .0) h or eqb (t .new .0) h) (heldIn ts (handleNo h)) e)
 
 -- a handle that is not free is named or held
-taken-cases : (es : List Entry) (ts : List Task) (h : ℕ) → free es ts h ≡ false → (namedIn es h ≡ true) ⊎ (heldIn ts h ≡ true)
-taken-cases es ts h = by-test (namedIn es h) (λ e _. inl e) (λ e. rw e (by-test (heldIn ts h) (λ q _. inr q) (λ q. rw q (λ f. absurd (true≢false f)))))
+taken-cases : (es : List Entry) (ts : List Task) (h : ℕ) → free es ts (handleNo h) ≡ false → (namedIn es (handleNo h) ≡ true) ⊎ (heldIn ts (handleNo h) ≡ true)
+taken-cases es ts h = by-test (namedIn es (handleNo h)) (λ e _. inl e) (λ e. rw e (by-test (heldIn ts (handleNo h)) (λ q _. inr q) (λ q. rw q (λ f. absurd (true≢false f)))))
 
 -- ---- keys present by handles of a list
 one-of : (hs : List ℕ) (h : ℕ) → List·Memᴰ h hs → oneOf hs h ≡ true
@@ -80,7 +80,7 @@ is-found z s k v = picked (λ (o : Option ℕ). o ≡ some v → find z s (locat
 
 module _ (z : Sizes) (lim : Limited z) (s : Tables) (kept : Kept z s) where
   -- a named handle stands in an entry of some chunk
-  named-under : (h : ℕ) → namedIn (s .entries) h ≡ true → (k : ℕ) × NamedUnder z (s .entries) h k
+  named-under : (h : ℕ) → namedIn (s .entries) (handleNo h) ≡ true → (k : ℕ) × NamedUnder z (s .entries) h k
   named-under h e = at (named-row (s .entries) h e)
     where
       some : 0 < z .entries

@@ -6,12 +6,12 @@ use mathlib.Core.List.{List, [], _∷_}
 use lib.Dec.{eqb}
 use lib.ListN.{length}
 use Rattle.rules.specs.declared.Sizes.{Sizes}
-use Rattle.rules.specs.Words.{pick}
+use Rattle.rules.specs.Words.{pick, handleNo}
 use Rattle.rules.specs.Tables.{Tables, entry}
 use Rattle.rules.specs.Walks.{locate, find, free}
 use Rattle.rules.specs.Map.{Pair}
 use Rattle.laws.specs.Counts.{Every, Apart}
-use Rattle.facts.specs.Simulates.{Beside}
+use Rattle.simulation.specs.Beside.{Beside}
 
 -- the handle is one of the list
 unfoldable pub oneOf : List ℕ → ℕ → Bool
@@ -30,7 +30,7 @@ keysIn z s hs (x ∷ m) = let on = keysIn z s hs m in pick (oneOf hs (handleUnde
 -- a handle of the table that an entry names or a task holds
 pub record Taken (z : Sizes) (s : Tables) (h : ℕ) : Type 0 where
   pub inside : h < z .handles
-  pub notFree : free (s .entries) (s .tasks) h ≡ false
+  pub notFree : free (s .entries) (s .tasks) (handleNo h) ≡ false
 
 pub record TakenMost (z : Sizes) : Type 0 where
   -- of any handles, no two the same, all taken

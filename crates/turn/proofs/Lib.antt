@@ -1,1 +1,2 @@
 pub mod Turning
+pub mod Lent

@@ -6,7 +6,7 @@ ghost use mathlib.Core.Path.{_≡_};
 ghost use Prim.Native.Nat.{_<_};
 ghost use Rattle.rules.specs.Stages.{decide};
 ghost use Rattle.rules.specs.Rebalance.{gives};
-ghost use Rattle.rows.specs.Rows.{Lent, directoryOf, tables};
+ghost use Rattle.rows.specs.Rows.{directoryOf, asLent, asLeft, Lends};
 ghost use Rattle.stages.specs.Lengths.{Held};
 ghost use Rattle.turn.specs.Turns.{writes};
 
@@ -27,8 +27,8 @@ pub fn move_on(
     marks: &mut [u64],
     t: Task,
 ) -> Turned
-    requires { ⌜ Lent z (now directory) (now tasks) (now chunks) (now entries) (now values) (now marks) × Held z t × (t .stage < 23) × (directoryOf (now directory) .first .0 < z .chunks) ⌝ }
-    ensures { λ r. ⌜ (r .task ≡ decide z (tables z (now (directory .entry)) (now (tasks .entry)) (now (chunks .entry)) (now (entries .entry)) (now (values .entry)) (now (marks .entry))) t .task) × (gives (tables z (now (directory .entry)) (now (tasks .entry)) (now (chunks .exit)) (now (entries .exit)) (now (values .exit)) (now (marks .exit))) (r .report) ≡ writes z (tables z (now (directory .entry)) (now (tasks .entry)) (now (chunks .entry)) (now (entries .entry)) (now (values .entry)) (now (marks .entry))) t) ⌝ }
+    requires { ⌜ Lends z directory tasks chunks entries values marks × Held z t × (t .stage < 23) × (directoryOf (now directory) .first .0 < z .chunks) ⌝ }
+    ensures { λ r. ⌜ (r .task ≡ decide z (asLent z directory tasks chunks entries values marks) t .task) × (gives (asLeft z directory tasks chunks entries values marks) (r .report) ≡ writes z (asLent z directory tasks chunks entries values marks) t) ⌝ }
 {
     let x = stages::decide(z, directory, tasks, chunks, entries, values, marks, t);
     let next = x.task;
@@ -49,10 +49,38 @@ pub fn step(
     marks: &mut [u64],
     t: &mut Task,
 ) -> Report
-    requires { ⌜ Lent z (now directory) (now tasks) (now chunks) (now entries) (now values) (now marks) × Held z (now t) × (now t .stage < 23) × (directoryOf (now directory) .first .0 < z .chunks) ⌝ }
-    ensures { λ r. ⌜ (now (t .exit) ≡ decide z (tables z (now (directory .entry)) (now (tasks .entry)) (now (chunks .entry)) (now (entries .entry)) (now (values .entry)) (now (marks .entry))) (now (t .entry)) .task) × (gives (tables z (now (directory .entry)) (now (tasks .entry)) (now (chunks .exit)) (now (entries .exit)) (now (values .exit)) (now (marks .exit))) r ≡ writes z (tables z (now (directory .entry)) (now (tasks .entry)) (now (chunks .entry)) (now (entries .entry)) (now (values .entry)) (now (marks .entry))) (now (t .entry))) ⌝ }
+    requires { ⌜ Lends z directory tasks chunks entries values marks × Held z (now t) × (now t .stage < 23) × (directoryOf (now directory) .first .0 < z .chunks) ⌝ }
+    ensures { λ r. ⌜ (now (t .exit) ≡ decide z (asLent z directory tasks chunks entries values marks) (now (t .entry)) .task) × (gives (asLeft z directory tasks chunks entries values marks) r ≡ writes z (asLent z directory tasks chunks entries values marks) (now (t .entry))) ⌝ }
 {
     let x = move_on(z, directory, tasks, chunks, entries, values, marks, *t);
     *t = x.task;
     x.report
+}
+
+// The stage, with the task lent to the step and handed back.
+pub fn lend(
+    z: Sizes,
+    directory: &[u64],
+    tasks: &[u64],
+    chunks: &mut [u64],
+    entries: &mut [u64],
+    values: &mut [u64],
+    marks: &mut [u64],
+    t: Task,
+) -> Turned
+    requires { ⌜ Lends z directory tasks chunks entries values marks × Held z t × (t .stage < 23) × (directoryOf (now directory) .first .0 < z .chunks) ⌝ }
+    ensures { λ r. ⌜ (r .task ≡ decide z (asLent z directory tasks chunks entries values marks) t .task) × (gives (asLeft z directory tasks chunks entries values marks) (r .report) ≡ writes z (asLent z directory tasks chunks entries values marks) t) ⌝ }
+{
+    let mut own = t;
+    let report = step(
+        z,
+        directory,
+        tasks,
+        chunks,
+        entries,
+        values,
+        marks,
+        &mut own,
+    );
+    Turned { task: own, report }
 }

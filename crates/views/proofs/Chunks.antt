@@ -15,11 +15,11 @@ use Rattle.rules.specs.declared.Chunk.{Chunk}
 use Rattle.rules.specs.declared.ChunkNo.{ChunkNo}
 use Rattle.rules.specs.Words.{pick, _and_, NONE, chunkNo, noChunk, live}
 use Rattle.rules.specs.Tables.{chunkAt}
-use Rattle.rules.specs.Walks.{locateFrom, beforeFrom}
+use Rattle.rules.specs.Walks.{locateFrom, beforeFrom, chainFrom, InRange}
 use Rattle.rules.specs.Shape.{chainCount}
 use Rattle.laws.specs.Counts.{Every, Apart}
 use Rattle.laws.proofs.Tests.{picked, by-test}
-use Rattle.views.specs.Views.{Chain, chainFrom, InRange, replaced}
+use Rattle.views.specs.Views.{Chain, replaced}
 
 module _ (z : Sizes) (cs : List Chunk) where
   pub chain-live : (k : ℕ) (c : ChunkNo) (l : List ChunkNo) → Chain z cs k c l → Every (λ x. (x .0 < z .chunks) × (chunkAt cs x .status ≡ live)) l

@@ -10,6 +10,8 @@ use native.Mathlib.Omega.{arith}
 use lib.Dec.{eqb, ltb}
 use lib.ListN.{length, set, length-set}
 use borrow.Author.Tests.{lt-ltb, eqb-false, ne-eqb}
+use Rattle.rules.specs.Map.{Ascends}
+use Rattle.views.specs.Copies.{entryKey}
 use Rattle.rules.specs.declared.Sizes.{Sizes}
 use Rattle.rules.specs.declared.Entry.{Entry}
 use Rattle.rules.specs.declared.ChunkNo.{ChunkNo}
@@ -21,7 +23,7 @@ use Rattle.rules.specs.Shape.{numbers}
 use Rattle.laws.specs.Counts.{Every}
 use Rattle.laws.proofs.Tests.{picked}
 use Rattle.views.specs.Views.{Links}
-use Rattle.views.specs.Copies.{upFrom, Rising, filled, cleared}
+use Rattle.views.specs.Copies.{upFrom, filled, cleared}
 use Rattle.views.proofs.Rows.{entry-put}
 
 up-from : (n m : ℕ) (e : EntryNo) → List·Memᴰ e (upFrom n m) → (n ≤ e .0) × (e .0 < n + m)
@@ -116,9 +118,9 @@ module _ (z : Sizes) (c : ChunkNo) where
     filled-on n x l es = refl
 
     -- the list that is made
-    pub filled-links : (used k n : ℕ) (l es : List Entry) → n + length l ≤ used → used ≤ z .entries → length es ≡ z .chunks * z .entries → Rising k l →
+    pub filled-links : (used k n : ℕ) (l es : List Entry) → n + length l ≤ used → used ≤ z .entries → length es ≡ z .chunks * z .entries → Ascends entryKey k l →
         Links z (filled z c n l es) c used k (pick (eqb (length l) 0) noEntry (entryNo n)) (upFrom n (length l))
-    unfolding Links upFrom Rising
+    unfolding Links upFrom Ascends
     filled-links used k n [] es le small len r = refl
     filled-links used k n (x ∷ l) es le small len r =
         (rw (ne-eqb (suc (length l)) 0 (omega arith)), omega arith, rw (filled-first n x l es (le-trans le small) len) (r .0), rw (filled-first n x l es (le-trans le small) len) (links-on used (x .key + 1) _ (upFrom (n + 1) (length l)) (filled-on n x l es) (filled-links used _ (n + 1) l _ (omega arith) small (length-set es _ _ ∙ len) (r .1))))

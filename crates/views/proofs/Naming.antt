@@ -11,6 +11,8 @@ use lib.Dec.{eqb, ltb}
 use lib.ListN.{length, getD, take, drop, length-drop}
 use lib.Seq.{getD-drop}
 use borrow.Author.Tests.{lt-ltb, le-ltb, ltb-true, eqb-true}
+use Rattle.rules.specs.Map.{Ascends}
+use Rattle.views.specs.Copies.{entryKey}
 use Rattle.rules.specs.declared.Sizes.{Sizes}
 use Rattle.rules.specs.declared.Chunk.{Chunk}
 use Rattle.rules.specs.declared.Entry.{Entry}
@@ -22,27 +24,26 @@ use Rattle.rules.specs.Rebalance.{namingFrom, unusedFrom, unusedCount}
 use Rattle.laws.specs.Counts.{Every}
 use Rattle.laws.proofs.Tests.{picked, by-test}
 use Rattle.views.specs.Views.{Links}
-use Rattle.views.specs.Copies.{Rising}
 
 -- ---- keys that ascend
-pub rising-above : (k : ℕ) (l : List Entry) → Rising k l → Every (λ x. k ≤ x .key) l
-unfolding Rising
+pub rising-above : (k : ℕ) (l : List Entry) → Ascends entryKey k l → Every (λ x. k ≤ x .key) l
+unfolding Ascends
 rising-above k [] r = λ x m. absurd (List·Memᴰ·not-nil m)
 rising-above k (y ∷ l) r = λ x m. ⊎-elim (λ (p : x ≡ y). rw p (r .0)) (λ n. omega (arith, r .0, rising-above _ l (r .1) x n)) (List·Memᴰ·cases-cons m)
 
-rising-less : (k j : ℕ) (l : List Entry) → k ≤ j → Rising j l → Rising k l
-unfolding Rising
+rising-less : (k j : ℕ) (l : List Entry) → k ≤ j → Ascends entryKey j l → Ascends entryKey k l
+unfolding Ascends
 rising-less k j [] le r = tt
 rising-less k j (x ∷ l) le r = (le-trans le (r .0), r .1)
 
-pub rising-take : (k n : ℕ) (l : List Entry) → Rising k l → Rising k (take n l)
-unfolding Rising
+pub rising-take : (k n : ℕ) (l : List Entry) → Ascends entryKey k l → Ascends entryKey k (take n l)
+unfolding Ascends
 rising-take k zero l r = tt
 rising-take k (suc n) [] r = tt
 rising-take k (suc n) (x ∷ l) r = (r .0, rising-take (x .key + 1) n l (r .1))
 
-pub rising-drop : (k n : ℕ) (l : List Entry) → n < length l → Rising k l → Rising (getD l n emptyEntry .key) (drop n l)
-unfolding Rising
+pub rising-drop : (k n : ℕ) (l : List Entry) → n < length l → Ascends entryKey k l → Ascends entryKey (getD l n emptyEntry .key) (drop n l)
+unfolding Ascends
 rising-drop k n [] b r = absurd (not-suc-le-zero b)
 rising-drop k zero (x ∷ l) b r = (le-refl _, r .1)
 rising-drop k (suc n) (x ∷ l) b r = rising-drop (x .key + 1) n l (le-of-suc-le-suc b) (r .1)
@@ -52,8 +53,8 @@ getD-in n [] b = absurd (not-suc-le-zero b)
 getD-in zero (x ∷ l) b = List·Memᴰ·head refl
 getD-in (suc n) (x ∷ l) b = List·Memᴰ·tail (getD-in n l (le-of-suc-le-suc b))
 
-pub take-below : (k n : ℕ) (l : List Entry) → n < length l → Rising k l → Every (λ x. x .key < getD l n emptyEntry .key) (take n l)
-unfolding Rising
+pub take-below : (k n : ℕ) (l : List Entry) → n < length l → Ascends entryKey k l → Every (λ x. x .key < getD l n emptyEntry .key) (take n l)
+unfolding Ascends
 take-below k n [] b r = absurd (not-suc-le-zero b)
 take-below k zero (x ∷ l) b r = λ y m. absurd (List·Memᴰ·not-nil m)
 take-below k (suc n) (x ∷ l) b r = λ y m. ⊎-elim (λ (p : y ≡ x). rw p (first (rising-above _ l (r .1) _ (getD-in n l (le-of-suc-le-suc b))))) (λ o. take-below _ n l (le-of-suc-le-suc b) (r .1) y o) (List·Memᴰ·cases-cons m)
@@ -80,13 +81,13 @@ take-drop-in (suc n) (y ∷ l) x m = ⊎-elim (λ p. inl (List·Memᴰ·head p))
 
 -- ---- the linked entries that name a handle
 module _ (z : Sizes) (es : List Entry) (c : ChunkNo) (used : ℕ) (small : used ≤ z .entries) (sized : z .entries ≤ NONE) where
-  pub naming-rising : (fuel k : ℕ) (e : EntryNo) (l : List EntryNo) → Links z es c used k e l → Rising k (namingFrom z es c fuel e)
-  unfolding Links namingFrom Rising
+  pub naming-rising : (fuel k : ℕ) (e : EntryNo) (l : List EntryNo) → Links z es c used k e l → Ascends entryKey k (namingFrom z es c fuel e)
+  unfolding Links namingFrom Ascends
   naming-rising zero k e l h = tt
   naming-rising (suc fuel) k e [] h = rw (le-ltb (e .0) (z .entries) (omega arith)) tt
   naming-rising (suc fuel) k e (x ∷ l) h =
       rw (h .0, lt-ltb (x .0) (z .entries) (omega (arith, h .1)))
-      (picked (λ (r : List Entry). Rising k r) (ltb (entryAt z es c x .handle .0) (z .handles))
+      (picked (λ (r : List Entry). Ascends entryKey k r) (ltb (entryAt z es c x .handle .0) (z .handles))
       (λ _. (h .2, naming-rising fuel _ _ l (h .3))) (λ _. rising-less k (entryAt z es c x .key + 1) (namingFrom z es c fuel (entryAt z es c x .next)) (omega (arith, h .2)) (naming-rising fuel _ _ l (h .3))))
 
   pub naming-length : (fuel k : ℕ) (e : EntryNo) (l : List EntryNo) → Links z es c used k e l → length (namingFrom z es c fuel e) ≤ length l
@@ -143,13 +144,13 @@ unused-from (x ∷ cs) n b = by-test (eqb (x .status) unused) here (λ t. there 
     there t o = rw t (suc (o .0), omega (arith, o .1), omega (arith, o .2), o .3, o .4)
 
 -- ---- bounds on ascending keys
-pub rising-from : (k j : ℕ) (l : List Entry) → Rising k l → Every (λ x. j ≤ x .key) l → Rising j l
-unfolding Rising
+pub rising-from : (k j : ℕ) (l : List Entry) → Ascends entryKey k l → Every (λ x. j ≤ x .key) l → Ascends entryKey j l
+unfolding Ascends
 rising-from k j [] r all = tt
 rising-from k j (x ∷ l) r all = (all x (List·Memᴰ·head refl), r .1)
 
-pub rising-grows : (k n : ℕ) (l : List Entry) → n < length l → Rising k l → k + n ≤ getD l n emptyEntry .key
-unfolding Rising
+pub rising-grows : (k n : ℕ) (l : List Entry) → n < length l → Ascends entryKey k l → k + n ≤ getD l n emptyEntry .key
+unfolding Ascends
 rising-grows k n [] b r = absurd (not-suc-le-zero b)
 rising-grows k zero (x ∷ l) b r = omega (arith, r .0)
 rising-grows k (suc n) (x ∷ l) b r = omega (arith, r .0, rising-grows (x .key + 1) n l (le-of-suc-le-suc b) (r .1))

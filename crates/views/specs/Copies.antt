@@ -16,10 +16,8 @@ unfoldable pub upFrom : ℕ → ℕ → List EntryNo
 upFrom n zero = []
 upFrom n (suc m) = entryNo n ∷ upFrom (n + 1) m
 
--- keys ascend strictly, from k on
-unfoldable pub Rising : ℕ → List Entry → Type 0
-Rising k [] = Unit {0}
-Rising k (x ∷ l) = (k ≤ x .key) × Rising (x .key + 1) l
+abbrev pub entryKey : Entry → ℕ
+entryKey x = x .key
 
 module _ (z : Sizes) (c : ChunkNo) where
   -- a chunk's rows from entry n on, one for each of the list, each linked to the next

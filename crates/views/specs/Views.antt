@@ -36,21 +36,7 @@ module _ (z : Sizes) (cs : List Chunk) where
   Chain k c [] = c .0 ≡ NONE
   Chain k c (x ∷ l) = (c ≡ x) × (x .0 < z .chunks) × (chunkAt cs x .status ≡ live) × (k ≤ chunkAt cs x .min) × Chain (chunkAt cs x .min + 1) (chunkAt cs x .next) l
 
-  -- the chunks from c on, along next
-  unfoldable pub chainFrom : ℕ → ChunkNo → List ChunkNo
-  chainFrom zero c = []
-  chainFrom (suc fuel) c = let on = c ∷ chainFrom fuel (chunkAt cs c .next) in pick (ltb (c .0) (z .chunks)) on []
-
--- the key lies in the chunk's range: from its minimum key up to the next live chunk's
-pub record InRange (z : Sizes) (cs : List Chunk) (c : ChunkNo) (k : ℕ) : Type 0 where
-  pub from : chunkAt cs c .min ≤ k
-  pub to : chunkAt cs c .next .0 < z .chunks → k < chunkAt cs (chunkAt cs c .next) .min
-
 -- the chain with new ones in the place of one
 unfoldable pub replaced : ChunkNo → List ChunkNo → List ChunkNo → List ChunkNo
 replaced old new [] = []
 replaced old new (x ∷ l) = let on = x ∷ replaced old new l in pick (eqb (x .0) (old .0)) (new ++ l) on
-
--- the live chunks, in order
-abbrev pub chain : Sizes → Tables → List ChunkNo
-chain z s = chainFrom z (s .chunks) (z .chunks) (s .directory .first)

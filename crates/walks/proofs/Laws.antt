@@ -13,6 +13,7 @@ use Rattle.rules.specs.declared.Chunk.{Chunk}
 use Rattle.rules.specs.declared.Entry.{Entry}
 use Rattle.rules.specs.declared.ChunkNo.{ChunkNo}
 use Rattle.rules.specs.declared.EntryNo.{EntryNo}
+use Rattle.rules.specs.declared.HandleNo.{HandleNo}
 use Rattle.rules.specs.Words.{pick, _and_, _or_, chunkNo, handleNo, noChunk, noEntry, noHandle, unused}
 use Rattle.rules.specs.Tables.{chunkAt, entryAt}
 use Rattle.rules.specs.Walks.{locateFrom, beforeFrom, findFrom, placeFrom, namedIn, heldIn, free, freeFrom}
@@ -114,11 +115,11 @@ module _ {A : Type 0} {some : List A → Bool} {test : A → Bool} (law : Some s
   pub some-next : i < n → (x : A) → x ≡ f i → test x ≡ false → some (rowsFrom f i (n - i)) ≡ some (rowsFrom f (i + 1) (n - (i + 1)))
   some-next h x q t = rw (rows-step f n i h, law .cons, ← q, t)
 
-pub named-some : (h : ℕ) → Some (λ l. namedIn l h) (λ x. eqb (x .handle .0) h)
+pub named-some : (h : HandleNo) → Some (λ l. namedIn l h) (λ x. eqb (x .handle .0) (h .0))
 unfolding namedIn
 named-some h = record { nil = refl; cons = λ x l. refl }
 
-pub held-some : (h : ℕ) → Some (λ l. heldIn l h) (λ t. eqb (t .old .0) h or eqb (t .new .0) h)
+pub held-some : (h : HandleNo) → Some (λ l. heldIn l h) (λ t. eqb (t .old .0) (h .0) or eqb (t .new .0) (h .0))
 unfolding heldIn
 held-some h = record { nil = refl; cons = λ x l. refl }
 
@@ -162,10 +163,10 @@ module _ (es : List Entry) (ts : List Task) (h left : ℕ) where
   unfolding freeFrom
   free-spent l = rw (le-antisymm l zero-le)
 
-  pub free-here : 0 < left → free es ts h ≡ true → freeFrom es ts left h ≡ handleNo h
+  pub free-here : 0 < left → free es ts (handleNo h) ≡ true → freeFrom es ts left h ≡ handleNo h
   unfolding freeFrom
   free-here p t = fuelled (λ n. freeFrom es ts n h) (λ n. handleNo h) (λ n. rw t) left p
 
-  pub free-next : 0 < left → free es ts h ≡ false → freeFrom es ts left h ≡ freeFrom es ts (left - 1) (h + 1)
+  pub free-next : 0 < left → free es ts (handleNo h) ≡ false → freeFrom es ts left h ≡ freeFrom es ts (left - 1) (h + 1)
   unfolding freeFrom
   free-next p t = fuelled (λ n. freeFrom es ts n h) (λ n. freeFrom es ts n (h + 1)) (λ n. rw t) left p

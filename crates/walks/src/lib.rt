@@ -23,23 +23,22 @@ pub fn locate(z: Sizes, chunks: &[u64], first: ChunkNo, k: u64) -> ChunkNo
     requires { ⌜ length (now chunks) ≡ z .chunks * 6 ⌝ }
     ensures { λ r. ⌜ r ≡ locateFrom z (chunkRows (z .chunks) (now (chunks .entry))) (z .chunks) first k ⌝ }
 {
-    let mut at = first.0;
-    let mut next = rows::chunk_at(z, chunks, first).next.0;
+    let mut at = first;
+    let mut next = rows::chunk_at(z, chunks, first).next;
     let mut left = z.chunks;
     while 0 < left {
-        let i = next as usize;
-        if z.chunks <= i {
-            return ChunkNo(at);
+        if z.chunks <= next.0 as usize {
+            return at;
         }
-        let x = rows::chunk_at(z, chunks, ChunkNo(next));
+        let x = rows::chunk_at(z, chunks, next);
         if k < x.min {
-            return ChunkNo(at);
+            return at;
         }
         at = next;
-        next = x.next.0;
+        next = x.next;
         left -= 1;
     }
-    ChunkNo(at)
+    at
 }
 
 // The chunk from the first on whose next is the given one, or none.
@@ -47,15 +46,14 @@ pub fn before(z: Sizes, chunks: &[u64], first: ChunkNo, x: ChunkNo) -> ChunkNo
     requires { ⌜ length (now chunks) ≡ z .chunks * 6 ⌝ }
     ensures { λ r. ⌜ r ≡ beforeFrom z (chunkRows (z .chunks) (now (chunks .entry))) (z .chunks) first x ⌝ }
 {
-    let mut at = first.0;
+    let mut at = first;
     let mut left = z.chunks;
     while 0 < left {
-        let next = rows::chunk_at(z, chunks, ChunkNo(at)).next.0;
-        if next == x.0 {
-            return ChunkNo(at);
+        let next = rows::chunk_at(z, chunks, at).next;
+        if next.0 == x.0 {
+            return at;
         }
-        let i = next as usize;
-        if z.chunks <= i {
+        if z.chunks <= next.0 as usize {
             return ChunkNo(NONE);
         }
         at = next;
@@ -71,18 +69,17 @@ pub fn find(z: Sizes, entries: &[u64], c: ChunkNo, head: EntryNo, k: u64) -> Ent
     requires { ⌜ (c .0 < z .chunks) × (length (now entries) ≡ z .chunks * z .entries * 3) ⌝ }
     ensures { λ r. ⌜ r ≡ findFrom z (entryRows (z .chunks * z .entries) (now (entries .entry))) c (z .entries) head k ⌝ }
 {
-    let mut at = head.0;
+    let mut at = head;
     let mut left = z.entries;
     while 0 < left {
-        let i = at as usize;
-        if z.entries <= i {
+        if z.entries <= at.0 as usize {
             return EntryNo(NONE);
         }
-        let x = rows::entry_at(z, entries, c, EntryNo(at));
+        let x = rows::entry_at(z, entries, c, at);
         if x.key == k {
-            return EntryNo(at);
+            return at;
         }
-        at = x.next.0;
+        at = x.next;
         left -= 1;
     }
     EntryNo(NONE)
@@ -93,36 +90,35 @@ pub fn place(z: Sizes, entries: &[u64], c: ChunkNo, head: EntryNo, k: u64) -> En
     requires { ⌜ (c .0 < z .chunks) × (length (now entries) ≡ z .chunks * z .entries * 3) ⌝ }
     ensures { λ r. ⌜ r ≡ placeFrom z (entryRows (z .chunks * z .entries) (now (entries .entry))) c (z .entries) noEntry head k ⌝ }
 {
-    let mut below = NONE;
-    let mut at = head.0;
+    let mut below = EntryNo(NONE);
+    let mut at = head;
     let mut left = z.entries;
     while 0 < left {
-        let i = at as usize;
-        if z.entries <= i {
-            return EntryNo(below);
+        if z.entries <= at.0 as usize {
+            return below;
         }
-        let x = rows::entry_at(z, entries, c, EntryNo(at));
+        let x = rows::entry_at(z, entries, c, at);
         if k <= x.key {
-            return EntryNo(below);
+            return below;
         }
         below = at;
-        at = x.next.0;
+        at = x.next;
         left -= 1;
     }
-    EntryNo(below)
+    below
 }
 
 // ---- which handle is free
 
 // An entry of the first `n` rows names the handle.
-pub fn named_in(n: usize, entries: &[u64], h: u64) -> bool
+pub fn named_in(n: usize, entries: &[u64], h: HandleNo) -> bool
     requires { ⌜ n * 3 ≤ length (now entries) ⌝ }
     ensures { λ r. ⌜ r ≡ namedIn (entryRows n (now (entries .entry))) h ⌝ }
 {
     let mut i = 0;
     while i < n {
         let x = rows::entry_row(entries, i);
-        if x.handle.0 == h {
+        if x.handle.0 == h.0 {
             return true;
         }
         i += 1;
@@ -131,17 +127,17 @@ pub fn named_in(n: usize, entries: &[u64], h: u64) -> bool
 }
 
 // A task of the first `n` rows holds the handle.
-pub fn held_in(n: usize, tasks: &[u64], h: u64) -> bool
+pub fn held_in(n: usize, tasks: &[u64], h: HandleNo) -> bool
     requires { ⌜ n * 11 ≤ length (now tasks) ⌝ }
     ensures { λ r. ⌜ r ≡ heldIn (taskRows n (now (tasks .entry))) h ⌝ }
 {
     let mut i = 0;
     while i < n {
         let t = rows::task_row(tasks, i);
-        if t.old.0 == h {
+        if t.old.0 == h.0 {
             return true;
         }
-        if t.new.0 == h {
+        if t.new.0 == h.0 {
             return true;
         }
         i += 1;
@@ -150,7 +146,7 @@ pub fn held_in(n: usize, tasks: &[u64], h: u64) -> bool
 }
 
 // No entry names the handle, and no task holds it.
-pub fn is_free(z: Sizes, entries: &[u64], tasks: &[u64], h: u64) -> bool
+pub fn is_free(z: Sizes, entries: &[u64], tasks: &[u64], h: HandleNo) -> bool
     requires { ⌜ (length (now entries) ≡ z .chunks * z .entries * 3) × (length (now tasks) ≡ z .tasks * 11) ⌝ }
     ensures { λ r. ⌜ r ≡ free (entryRows (z .chunks * z .entries) (now (entries .entry))) (taskRows (z .tasks) (now (tasks .entry))) h ⌝ }
 {
@@ -165,13 +161,14 @@ pub fn lowest_free(z: Sizes, entries: &[u64], tasks: &[u64]) -> HandleNo
     requires { ⌜ (length (now entries) ≡ z .chunks * z .entries * 3) × (length (now tasks) ≡ z .tasks * 11) ⌝ }
     ensures { λ r. ⌜ r ≡ freeFrom (entryRows (z .chunks * z .entries) (now (entries .entry))) (taskRows (z .tasks) (now (tasks .entry))) (z .handles) 0 ⌝ }
 {
-    let mut h: u64 = 0;
+    let mut n: u64 = 0;
     let mut left = z.handles;
     while 0 < left {
+        let h = HandleNo(n);
         if is_free(z, entries, tasks, h) {
-            return HandleNo(h);
+            return h;
         }
-        h += 1;
+        n += 1;
         left -= 1;
     }
     HandleNo(NONE)

@@ -22,36 +22,27 @@ ghost use Rattle.writes.specs.Placed.{Ready};
 fn with_next(x: Entry, e: EntryNo) -> Entry
     ensures { λ r. ⌜ r ≡ withNext x e ⌝ }
 {
-    Entry {
-        key: x.key,
-        handle: HandleNo(x.handle.0),
-        next: e,
-    }
+    let mut row = x;
+    row.next = e;
+    row
 }
 
 // The entry, naming the handle.
 fn with_handle(x: Entry, h: HandleNo) -> Entry
     ensures { λ r. ⌜ r ≡ withHandle x h ⌝ }
 {
-    Entry {
-        key: x.key,
-        handle: h,
-        next: EntryNo(x.next.0),
-    }
+    let mut row = x;
+    row.handle = h;
+    row
 }
 
 // The chunk, its list from the entry on.
 fn with_head(x: Chunk, e: EntryNo) -> Chunk
     ensures { λ r. ⌜ r ≡ withHead x e ⌝ }
 {
-    Chunk {
-        status: x.status,
-        frozen: x.frozen,
-        min: x.min,
-        next: ChunkNo(x.next.0),
-        head: e,
-        used: x.used,
-    }
+    let mut row = x;
+    row.head = e;
+    row
 }
 
 // ---- the writes
@@ -63,14 +54,8 @@ fn slot(z: Sizes, chunks: &mut [u64], entries: &mut [u64], c: ChunkNo, k: u64)
 {
     let x = rows::chunk_at(z, chunks, c);
     let used = x.used;
-    let row = Chunk {
-        status: x.status,
-        frozen: x.frozen,
-        min: x.min,
-        next: ChunkNo(x.next.0),
-        head: EntryNo(x.head.0),
-        used: used + 1,
-    };
+    let mut row = x;
+    row.used = used + 1;
     rows::put_chunk(z, chunks, c, row);
     let empty = Entry {
         key: k,

@@ -65,7 +65,7 @@ pub fn place(r: &mut Chance, w: &Words) -> (usize, usize) {
 
 /// Words that keep the shape more often than others do: values, keys, arguments, marks, stages, and numbers of handles and chunks.
 pub fn gentle(r: &mut Chance, w: &mut Words) {
-    match r.below(12) {
+    match r.below(13) {
         0 => w[4][r.below(HANDLES)] = r.word(),
         1 => w[5][r.below(HANDLES)] ^= 1,
         2 => {
@@ -114,6 +114,12 @@ pub fn gentle(r: &mut Chance, w: &mut Words) {
         10 => {
             let count = r.of(&[1, 2, 30]);
             lengthen(w, count);
+        }
+        11 => {
+            let old = w[1][r.below(TASKS) * 11 + 7] as usize;
+            if let Some(mark) = w[5].get_mut(old) {
+                *mark ^= 1;
+            }
         }
         _ => {
             let at = r.below(CHUNKS * ENTRIES) * 3;

@@ -29,6 +29,8 @@ struct Holds {
     new: Hold,
     published: Hold,
     swapped: Hold,
+    /// The old handle is a deleted one.
+    deleted: bool,
 }
 
 const NOTHING: Holds = Holds {
@@ -38,6 +40,7 @@ const NOTHING: Holds = Holds {
     new: No,
     published: No,
     swapped: No,
+    deleted: false,
 };
 const CHUNK: Holds = Holds { chunk: Must, ..NOTHING };
 const ENTRY: Holds = Holds { entry: Must, ..CHUNK };
@@ -54,8 +57,17 @@ const OLD_OUTCOME: Holds = Holds {
     swapped: Perhaps,
     ..OLD_PUBLISHED
 };
-const DELETED: Holds = Holds { old: Must, ..NOTHING };
+const DELETED: Holds = Holds {
+    old: Must,
+    deleted: true,
+    ..NOTHING
+};
 const DELETED_CHUNK: Holds = Holds { chunk: Must, ..DELETED };
+const DELETED_ENTRY: Holds = Holds { entry: Must, ..DELETED_CHUNK };
+const DELETED_PUBLISHED: Holds = Holds {
+    published: Must,
+    ..DELETED_ENTRY
+};
 
 impl Stage {
     /// What the stage list says that the stage holds.
@@ -73,8 +85,8 @@ impl Stage {
             Stage::UnpublishAbsence => OLD_OUTCOME,
             Stage::LocateAgain => DELETED,
             Stage::FindAgain => DELETED_CHUNK,
-            Stage::ReadAgain | Stage::PublishRemoval => OLD,
-            Stage::SwapRemoval | Stage::UnpublishRemoval => OLD_PUBLISHED,
+            Stage::ReadAgain | Stage::PublishRemoval => DELETED_ENTRY,
+            Stage::SwapRemoval | Stage::UnpublishRemoval => DELETED_PUBLISHED,
         }
     }
 
@@ -244,7 +256,18 @@ impl Tables {
 
     /// A task at work holds what its stage does, and what it holds is there.
     fn task_fits(&self, task: &Task, linked: &[u32; CHUNKS]) -> bool {
-        task.holds_fit() && task.asks_fit() && self.held_place_fits(task, linked) && lies(task.old, HANDLES) && lies(task.new, HANDLES)
+        task.holds_fit()
+            && task.asks_fit()
+            && self.held_place_fits(task, linked)
+            && lies(task.old, HANDLES)
+            && lies(task.new, HANDLES)
+            && self.held_mark_fits(task)
+    }
+
+    /// Where the stage holds a deleted handle, its mark is set.
+    fn held_mark_fits(&self, task: &Task) -> bool {
+        let is_deleted = |old: HandleNo| self.handles.get(old).is_some_and(|handle| handle.deleted);
+        !task.stage.holds().deleted || task.old.is_some_and(is_deleted)
     }
 
     /// A held chunk is in use; a held entry is used, has the task's key, and is linked except at 7.

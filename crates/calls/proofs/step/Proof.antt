@@ -7,7 +7,7 @@ use Rattle.rules.specs.Calls.{Call}
 use Rattle.rules.proofs.Tests.{and-left, and-right}
 use Rattle.rules.specs.Shape.{shape}
 use Rattle.rules.specs.Rebalance.{Outcome}
-use Rattle.calls.specs.Promise.{words, tablesOf, lent}
+use Rattle.calls.specs.Promise.{lending, tablesOf, lent}
 use Rattle.calls.proofs.Laws.{lent-lengths, refused, done, still-lent}
 use borrow.Author.Needs.{needs}
 use Rattle.calls.proofs.step.Statement.{statement}
@@ -32,10 +32,10 @@ same-length-5 : tie.Need-same-length-5
 same-length-5 c = search needs
 
 returns : tie.Need-returns
-returns c = let the-args = c .before .before .before .before .before .before .before .before .before .before .before .before .before .args in let the-is-ready = c .before .is-ready in refused (the-args .z) (Call.step (the-args .n)) (words (the-args .directory .now) (the-args .tasks .now) (the-args .chunks .now) (the-args .entries .now) (the-args .values .now) (the-args .marks .now)) (sym (the-is-ready .ensures) ∙ not-true (the-is-ready .result) (c .if1 .taken))
+returns c = let the-args = c .before .before .before .before .before .before .before .before .before .before .before .before .before .args in let the-is-ready = c .before .is-ready in refused (the-args .z) (Call.step (the-args .n)) (lending (the-args .directory .now) (the-args .tasks .now) (the-args .chunks .now) (the-args .entries .now) (the-args .values .now) (the-args .marks .now)) (sym (the-is-ready .ensures) ∙ not-true (the-is-ready .result) (c .if1 .taken))
 
 step-requires : tie.Need-step-requires
-step-requires c κs = let the-args = c .before .before .before .before .before .before .before .before .before .before .before .before .before .before .before .before .before .before .args in let the-if1 = c .before .before .before .before .before .if1 in let the-is-ready = c .before .before .before .before .before .before .is-ready in ((lent-lengths (the-args .z) (words (the-args .directory .now) (the-args .tasks .now) (the-args .chunks .now) (the-args .entries .now) (the-args .values .now) (the-args .marks .now)) (and-left (lent (the-args .z) (words (the-args .directory .now) (the-args .tasks .now) (the-args .chunks .now) (the-args .entries .now) (the-args .values .now) (the-args .marks .now))) (shape (the-args .z) (tablesOf (the-args .z) (words (the-args .directory .now) (the-args .tasks .now) (the-args .chunks .now) (the-args .entries .now) (the-args .values .now) (the-args .marks .now)))) (sym (the-is-ready .ensures) ∙ not-false (the-is-ready .result) (the-if1 .left)))), (and-right (lent (the-args .z) (words (the-args .directory .now) (the-args .tasks .now) (the-args .chunks .now) (the-args .entries .now) (the-args .values .now) (the-args .marks .now))) (shape (the-args .z) (tablesOf (the-args .z) (words (the-args .directory .now) (the-args .tasks .now) (the-args .chunks .now) (the-args .entries .now) (the-args .values .now) (the-args .marks .now)))) (sym (the-is-ready .ensures) ∙ not-false (the-is-ready .result) (the-if1 .left))))
+step-requires c κs = let the-args = c .before .before .before .before .before .before .before .before .before .before .before .before .before .before .before .before .before .before .args in let the-if1 = c .before .before .before .before .before .if1 in let the-is-ready = c .before .before .before .before .before .before .is-ready in ((lent-lengths (the-args .z) (lending (the-args .directory .now) (the-args .tasks .now) (the-args .chunks .now) (the-args .entries .now) (the-args .values .now) (the-args .marks .now)) (and-left (lent (the-args .z) (lending (the-args .directory .now) (the-args .tasks .now) (the-args .chunks .now) (the-args .entries .now) (the-args .values .now) (the-args .marks .now))) (shape (the-args .z) (tablesOf (the-args .z) (lending (the-args .directory .now) (the-args .tasks .now) (the-args .chunks .now) (the-args .entries .now) (the-args .values .now) (the-args .marks .now)))) (sym (the-is-ready .ensures) ∙ not-false (the-is-ready .result) (the-if1 .left)))), (and-right (lent (the-args .z) (lending (the-args .directory .now) (the-args .tasks .now) (the-args .chunks .now) (the-args .entries .now) (the-args .values .now) (the-args .marks .now))) (shape (the-args .z) (tablesOf (the-args .z) (lending (the-args .directory .now) (the-args .tasks .now) (the-args .chunks .now) (the-args .entries .now) (the-args .values .now) (the-args .marks .now)))) (sym (the-is-ready .ensures) ∙ not-false (the-is-ready .result) (the-if1 .left))))
 
 same-length-6 : tie.Need-same-length-6
 same-length-6 c = search needs
@@ -54,7 +54,7 @@ same-length-10 c = search needs
 
 returns-2 : tie.Need-returns-2
 unfolding does
-returns-2 c = let the-args = c .before .before .before .before .before .before .before .before .before .before .before .before .before .before .before .before .before .before .before .before .before .before .before .before .before .before .before .before .before .args in let the-if1 = c .before .before .before .before .before .before .before .before .before .before .before .before .before .before .before .before .if1 in let the-is-ready = c .before .before .before .before .before .before .before .before .before .before .before .before .before .before .before .before .before .is-ready in let the-step = c .before .before .before .before .before .before .before .before .before .before .step in done (the-args .z) (Call.step (the-args .n)) (words (the-args .directory .now) (the-args .tasks .now) (the-args .chunks .now) (the-args .entries .now) (the-args .values .now) (the-args .marks .now)) (words (the-args .directory .now) (the-step .last .1 .1 .0) (the-step .last .1 .1 .1 .0) (the-step .last .1 .1 .1 .1 .0) (the-step .last .1 .1 .1 .1 .1 .0) (the-step .last .1 .1 .1 .1 .1 .1 .0)) (the-step .result) (sym (the-is-ready .ensures) ∙ not-false (the-is-ready .result) (the-if1 .left)) ((ap (λ (o : Outcome). o .report) (the-step .ensures))) ((ap (λ (o : Outcome). o .tables) (the-step .ensures))) (still-lent (the-args .z) (words (the-args .directory .now) (the-args .tasks .now) (the-args .chunks .now) (the-args .entries .now) (the-args .values .now) (the-args .marks .now)) (words (the-args .directory .now) (the-step .last .1 .1 .0) (the-step .last .1 .1 .1 .0) (the-step .last .1 .1 .1 .1 .0) (the-step .last .1 .1 .1 .1 .1 .0) (the-step .last .1 .1 .1 .1 .1 .1 .0)) (and-left (lent (the-args .z) (words (the-args .directory .now) (the-args .tasks .now) (the-args .chunks .now) (the-args .entries .now) (the-args .values .now) (the-args .marks .now))) (shape (the-args .z) (tablesOf (the-args .z) (words (the-args .directory .now) (the-args .tasks .now) (the-args .chunks .now) (the-args .entries .now) (the-args .values .now) (the-args .marks .now)))) (sym (the-is-ready .ensures) ∙ not-false (the-is-ready .result) (the-if1 .left))) (record { directory = refl; tasks = the-step .kept .1 .1 .0; chunks = the-step .kept .1 .1 .1 .0; entries = the-step .kept .1 .1 .1 .1 .0; values = the-step .kept .1 .1 .1 .1 .1 .0; marks = the-step .kept .1 .1 .1 .1 .1 .1 .0 }))
+returns-2 c = let the-args = c .before .before .before .before .before .before .before .before .before .before .before .before .before .before .before .before .before .before .before .before .before .before .before .before .before .before .before .before .before .args in let the-if1 = c .before .before .before .before .before .before .before .before .before .before .before .before .before .before .before .before .if1 in let the-is-ready = c .before .before .before .before .before .before .before .before .before .before .before .before .before .before .before .before .before .is-ready in let the-step = c .before .before .before .before .before .before .before .before .before .before .step in done (the-args .z) (Call.step (the-args .n)) (lending (the-args .directory .now) (the-args .tasks .now) (the-args .chunks .now) (the-args .entries .now) (the-args .values .now) (the-args .marks .now)) (lending (the-args .directory .now) (the-step .last .1 .1 .0) (the-step .last .1 .1 .1 .0) (the-step .last .1 .1 .1 .1 .0) (the-step .last .1 .1 .1 .1 .1 .0) (the-step .last .1 .1 .1 .1 .1 .1 .0)) (the-step .result) (sym (the-is-ready .ensures) ∙ not-false (the-is-ready .result) (the-if1 .left)) ((ap (λ (o : Outcome). o .report) (the-step .ensures))) ((ap (λ (o : Outcome). o .tables) (the-step .ensures))) (still-lent (the-args .z) (lending (the-args .directory .now) (the-args .tasks .now) (the-args .chunks .now) (the-args .entries .now) (the-args .values .now) (the-args .marks .now)) (lending (the-args .directory .now) (the-step .last .1 .1 .0) (the-step .last .1 .1 .1 .0) (the-step .last .1 .1 .1 .1 .0) (the-step .last .1 .1 .1 .1 .1 .0) (the-step .last .1 .1 .1 .1 .1 .1 .0)) (and-left (lent (the-args .z) (lending (the-args .directory .now) (the-args .tasks .now) (the-args .chunks .now) (the-args .entries .now) (the-args .values .now) (the-args .marks .now))) (shape (the-args .z) (tablesOf (the-args .z) (lending (the-args .directory .now) (the-args .tasks .now) (the-args .chunks .now) (the-args .entries .now) (the-args .values .now) (the-args .marks .now)))) (sym (the-is-ready .ensures) ∙ not-false (the-is-ready .result) (the-if1 .left))) (record { directory = refl; tasks = the-step .kept .1 .1 .0; chunks = the-step .kept .1 .1 .1 .0; entries = the-step .kept .1 .1 .1 .1 .0; values = the-step .kept .1 .1 .1 .1 .1 .0; marks = the-step .kept .1 .1 .1 .1 .1 .1 .0 }))
 
 pub step-spec : {M : Type 1} → statement M
 step-spec =

@@ -16,18 +16,17 @@ use ghost.Atoms.{Atoms}
 use contract.Lifetimes.{Lfts, Shares}
 use contract.Monad.{Fun, fact}
 use contract.Running.{givenOf, tables, tablesOf}
-use types.Kit.{Given, ‵, raw, _⊛_, ⋆, some, later, _$_, _∵_, !, qed, by, move, keep, drop, use1, use2, split, pick, rewrite, fsplit, fsplit3, fjoin, fjoin3, feqL, feqI, suffices, frame, await, done}
-use types.Part.{agg, whole, sub, look-in}
-use types.Run.{look, look-raw, store-raw, init, forget, stop, hop, fld, from, load, and-then, no-more, of-opd, addr, land, assigns, returns, enter, alloc1, alloc0, params1, pass1, pass0, free1, free0}
+use types.Kit.{Given, ‵, raw, _⊛_, ⋆, some, later, _$_, _∵_, !, qed, by, move, drop, use1, use2, split, pick, rewrite, fsplit, fsplit3, fjoin, fjoin3, feqI, suffices, frame, await, done}
+use types.Part.{whole, sub, look-in}
+use types.Run.{look, look-raw, store-raw, init, forget, stop, hop, fld, from, load, and-then, no-more, of-opd, land, assigns, returns, enter, alloc1, alloc0, params1, pass1, pass0, free1, free0}
 use types.SemTy.{Body}
 use sound.WpLaws.{FmC, fmOf, WpFn-mono}
-use denote.RattleType.{owns}
 use denote.Laws.{Is, shows}
 use denote.Builtin.{u64}
 use denote.Memory.{mem}
 use denote.Ref.{RefT, MutRef, ptr-vals, mut-tells}
 use denote.Signature.{plain}
-use denote.Slice.{sliceVal, ShrSlice, MutSlice, slice-vals, shr-slice-tells, shr-slice-lawful, shr-slice-copy, mut-slice-tells, mut-slice-lawful}
+use denote.Slice.{sliceVal, ShrSlice, MutSlice, slice-vals, shr-slice-tells, shr-slice-lawful, mut-slice-tells, mut-slice-lawful}
 use denote.Steps.{only, opens, closes, owned, peeks, heard, nothing}
 use denote.Struct.Laws as LL
 use denote.Struct.Steps.{spelt}
@@ -55,6 +54,7 @@ use Rattle.rows.specs.Rows.{Lent, directoryOf, tables as every}
 use Rattle.stages.specs.Lengths.{Held}
 use Rattle.turn.specs.declared.Turned.{Turned}
 use Rattle.turn.specs.Turns.{writes}
+use Rattle.turn.proofs.Lent.{lends-on, Tokens, tokens-out, tokens-in, says-out, Lends, Keeps, lends-out, lends-in, has-in}
 use Rattle.turn.proofs.Turned as U
 use Rattle.turn.proofs.Turned.Laws as U′
 use Rattle.turn.proofs.move_on as move-on
@@ -121,17 +121,6 @@ module _ {M : Type 1} (𝓤 : URA M) (H : Heap 𝓤) (A : Atoms 𝓤) (W : Given
   abbrev to : MoveOn 𝓤 H A at-mem run .Ghost
   to = ((κs, qs, tt, a, at), tt)
 
-  -- the tokens that `move_on` takes and gives back
-  abbrev Tokens : Fml
-  Tokens = fsep (flft κ₀ q₀) (fsep (flft κ₁ q₁) (fsep (flft κ₂ q₂) (fsep (flft κ₃ q₃) (fsep (flft κ₄ q₄) (fsep (flft κ₅ q₅) (ftrue))))))
-
-  -- what it takes of the parameters, and what is kept of them
-  abbrev Lends : Fml
-  Lends = fsep (Z.the-row .own z (LL.vals Z.the-type Z′.the-laws z)) (fsep (ShrSlice (named 0) κ₀ u64 .own d (slice-vals d)) (fsep (ShrSlice (named 1) κ₁ u64 .own ts (slice-vals ts)) (fsep (MutSlice (named 2) κ₂ u64 .own cs (slice-vals cs)) (fsep (MutSlice (named 3) κ₃ u64 .own es (slice-vals es)) (fsep (MutSlice (named 4) κ₄ u64 .own vs (slice-vals vs)) (MutSlice (named 5) κ₅ u64 .own ms (slice-vals ms)))))))
-
-  abbrev Keeps : Fml
-  Keeps = fsep (Z.the-row .own z (LL.vals Z.the-type Z′.the-laws z)) (fsep (ShrSlice (named 0) κ₀ u64 .own d (slice-vals d)) (ShrSlice (named 1) κ₁ u64 .own ts (slice-vals ts)))
-
   -- the lent task, at a task
   abbrev Observed : Task → Fml
   Observed u = fobs γ (T.the-row .coded .code u)
@@ -139,79 +128,60 @@ module _ {M : Type 1} (𝓤 : URA M) (H : Heap 𝓤) (A : Atoms 𝓤) (W : Given
   abbrev Borrowed : Fml
   Borrowed = fbor κ₆ (Body (mem T.the-row) b o γ)
 
-  apart : ent 𝓤 (onEntry 𝓤 H A step.signature κs⁺ qs⁺ a⁺ at⁺) (⋆ 𝓤 H A (‵ (Observed t) ∷ ‵ Borrowed ∷ ‵ (flft κ₆ q₆) ∷ ‵ Tokens ∷ ‵ Lends ∷ ‵ Keeps ∷ []))
-  apart =
-      qed W ((‵ (flft κ₀ q₀) ⊛ ‵ (flft κ₁ q₁) ⊛ ‵ (flft κ₂ q₂) ⊛ ‵ (flft κ₃ q₃) ⊛ ‵ (flft κ₄ q₄) ⊛ ‵ (flft κ₅ q₅) ⊛ ‵ (flft κ₆ q₆) ⊛ ‵ ftrue) ∷ ‵ (owns (Z.the-row ∷ ShrSlice (named 0) κ₀ u64 ∷ ShrSlice (named 1) κ₁ u64 ∷ MutSlice (named 2) κ₂ u64 ∷ MutSlice (named 3) κ₃ u64 ∷ MutSlice (named 4) κ₄ u64 ∷ MutSlice (named 5) κ₅ u64 ∷ MutRef (named 6) κ₆ T.the-row ∷ []) a⁺ at⁺) ∷ []) ∵
-      split ! $ move ! (1 ∷ []) $ split ! $ move ! (1 ∷ []) $ split ! $ move ! (1 ∷ []) $ split ! $ move ! (1 ∷ []) $ split ! $ move ! (1 ∷ []) $ split ! $ move ! (1 ∷ []) $ split ! $
-      -- [token 6; true; token 5; …; token 0; what the parameters own]
-      move ! (2 ∷ 1 ∷ []) $ fjoin ! $ move ! (2 ∷ 0 ∷ []) $ fjoin ! $ move ! (2 ∷ 0 ∷ []) $ fjoin ! $ move ! (2 ∷ 0 ∷ []) $ fjoin ! $ move ! (2 ∷ 0 ∷ []) $ fjoin ! $ move ! (2 ∷ 0 ∷ []) $ fjoin ! $
-      move ! (2 ∷ []) $ fsplit ! $ use1 W (‵ (Z.the-row .own z (LL.vals Z.the-type Z′.the-laws z)) ⊛ ‵ (Z.the-row .own z (LL.vals Z.the-type Z′.the-laws z))) (LL.copy Z.the-type Z′.the-copy 𝓤 H A W .twice z (LL.vals Z.the-type Z′.the-laws z)) $ split ! $
-      move ! (2 ∷ []) $ fsplit ! $ use1 W (‵ (ShrSlice (named 0) κ₀ u64 .own d (slice-vals d)) ⊛ ‵ (ShrSlice (named 0) κ₀ u64 .own d (slice-vals d))) (shr-slice-copy 𝓤 H A W (named 0) κ₀ u64 .twice d (slice-vals d)) $ split ! $
-      move ! (2 ∷ []) $ fsplit ! $ use1 W (‵ (ShrSlice (named 1) κ₁ u64 .own ts (slice-vals ts)) ⊛ ‵ (ShrSlice (named 1) κ₁ u64 .own ts (slice-vals ts))) (shr-slice-copy 𝓤 H A W (named 1) κ₁ u64 .twice ts (slice-vals ts)) $ split ! $
-      -- [tasks; tasks; the others; directory; directory; z; z; the tokens; token 6]
-      move ! (3 ∷ 0 ∷ []) $ fjoin ! $ move ! (4 ∷ 0 ∷ []) $ fjoin ! $ move ! (2 ∷ []) $ fsplit ! $ move ! (1 ∷ []) $ fsplit ! $ move ! (1 ∷ []) $ fsplit ! $ move ! (1 ∷ []) $ fsplit ! $ move ! (1 ∷ []) $ fsplit ! $ fsplit3 ! $ drop ! $
-      -- [obs; the borrow; true; marks; values; entries; chunks; what is kept; tasks; directory; z; the tokens; token 6]
-      move ! (4 ∷ 3 ∷ []) $ fjoin ! $ move ! (4 ∷ 0 ∷ []) $ fjoin ! $ move ! (4 ∷ 0 ∷ []) $ fjoin ! $ move ! (5 ∷ 0 ∷ []) $ fjoin ! $ move ! (5 ∷ 0 ∷ []) $ fjoin ! $ move ! (5 ∷ 0 ∷ []) $ fjoin ! $
-      keep ! (1 ∷ 2 ∷ 6 ∷ 5 ∷ 0 ∷ 4 ∷ []) $ done !
+  abbrev Ref : Fml
+  Ref = MutRef (named 6) κ₆ T.the-row .own (record { ptr = (b, o); name = γ; now = t }) (vptr b o ∷ [])
 
-  asked : Asks → Is T.the-row t (LL.vals T.the-type T′.the-laws t) → ent 𝓤 (⋆ 𝓤 H A (‵ Tokens ∷ ‵ Lends ∷ [])) (MoveOn 𝓤 H A at-mem run .pre to)
+  asked : Asks → Is T.the-row t (LL.vals T.the-type T′.the-laws t) → ent 𝓤 (⋆ 𝓤 H A (‵ (Tokens κs qs ftrue) ∷ ‵ (Lends κs z d ts cs es vs ms ftrue) ∷ [])) (MoveOn 𝓤 H A at-mem run .pre to)
   asked asks is =
-      qed W (‵ Tokens ∷ ‵ Lends ∷ []) ∵ says ! asks $ frame ! $ fsplit ! $ frame ! $ fsplit ! $ frame ! $ fsplit ! $ frame ! $ fsplit ! $ frame ! $ fsplit ! $ frame ! $ fsplit ! $ frame ! $ frame ! $
-      nothing ! $ owned ! T.the-row (Is T.the-row) ((LL.makes T.the-type T′.the-plain) 𝓤 H A) t _ is $ fjoin ! $ done !
+      qed W (‵ (Tokens κs qs ftrue) ∷ ‵ (Lends κs z d ts cs es vs ms ftrue) ∷ []) ∵ says ! asks $ frame ! $
+      nothing ! $ owned ! T.the-row (Is T.the-row) ((LL.makes T.the-type T′.the-plain) 𝓤 H A) t _ is $ fjoin ! $ move ! (1 ∷ 0 ∷ []) $ lends-in κs z d ts cs es vs ms ! $ done !
 
   -- the machine value of the report
   abbrev reported : Turned → Val
   reported r = U′.the-laws .1 .0 .val (R.the-field .into (r .report))
 
   exits : (r : Turned) (ws : Last) → Is R.the-row (r .report) (reported r ∷ []) → Said r ws
-      → ent 𝓤 (⋆ 𝓤 H A (‵ (Observed (r .task)) ∷ ‵ Borrowed ∷ ‵ (flft κ₆ q₆) ∷ ‵ Tokens ∷ ‵ (lasts move-on.ended κs a ws) ∷ ‵ Keeps ∷ [])) (Post (reported r))
+      → ent 𝓤 (⋆ 𝓤 H A (‵ (Observed (r .task)) ∷ ‵ Borrowed ∷ ‵ (flft κ₆ q₆) ∷ ‵ (Tokens κs qs ftrue) ∷ ‵ (lasts move-on.ended κs a ws) ∷ ‵ (Keeps κs z d ts cs es vs ms) ∷ [])) (Post (reported r))
   exits r ws is e =
-      qed W (‵ (Observed (r .task)) ∷ ‵ Borrowed ∷ ‵ (flft κ₆ q₆) ∷ ‵ Tokens ∷ ‵ (lasts move-on.ended κs a ws) ∷ ‵ Keeps ∷ []) ∵
-      move ! (4 ∷ []) $ fsplit ! $ drop ! $ fsplit ! $ drop ! $ fsplit ! $ drop ! $ fsplit ! $ fsplit ! $ move ! (1 ∷ []) $ feqL ! (λ lc. move ! (1 ∷ []) $ fsplit ! $ fsplit ! $ move ! (1 ∷ []) $ feqL ! (λ le.
-      move ! (1 ∷ []) $ fsplit ! $ fsplit ! $ move ! (1 ∷ []) $ feqL ! (λ lv. move ! (1 ∷ []) $ fsplit ! $ fsplit ! $ move ! (1 ∷ []) $ feqL ! (λ lm. move ! (1 ∷ []) $ drop ! $
+      qed W (‵ (Observed (r .task)) ∷ ‵ Borrowed ∷ ‵ (flft κ₆ q₆) ∷ ‵ (Tokens κs qs ftrue) ∷ ‵ (lasts move-on.ended κs a ws) ∷ ‵ (Keeps κs z d ts cs es vs ms) ∷ []) ∵
+      move ! (4 ∷ []) $ says-out cs es vs ms (ws .1 .1 .1 .0) (ws .1 .1 .1 .1 .0) (ws .1 .1 .1 .1 .1 .0) (ws .1 .1 .1 .1 .1 .1 .0) ! (λ long. move ! (1 ∷ []) $ drop ! $
       suffices ! _ (ends-at 𝓤 H A step.ended stayed (step.clauses 𝓤 H A at-mem run) W ((κs⁺, qs⁺, tt, a⁺, at⁺), tt) (reported r) (r .report)
-      (tt, (tt, (tt, (ws .1 .1 .1 .0, (ws .1 .1 .1 .1 .0, (ws .1 .1 .1 .1 .1 .0, (ws .1 .1 .1 .1 .1 .1 .0, (r .task, tt)))))))) (tt, (tt, (tt, (lc, (le, (lv, (lm, (tt, tt))))))))) $ says ! e $
-      -- [marks; values; entries; chunks; obs; the borrow; token 6; the tokens; what is kept]
-      move ! (7 ∷ []) $ fsplit ! $ move ! (1 ∷ []) $ fsplit ! $ move ! (1 ∷ []) $ fsplit ! $ move ! (1 ∷ []) $ fsplit ! $ move ! (1 ∷ []) $ fsplit ! $ move ! (1 ∷ []) $ fsplit ! $
-      -- [token 5; true; token 4; …; token 0; marks; values; entries; chunks; obs; the borrow; token 6; what is kept]
-      move ! (13 ∷ 1 ∷ []) $ fjoin ! $ move ! (1 ∷ 0 ∷ []) $ fjoin ! $ move ! (1 ∷ 0 ∷ []) $ fjoin ! $ move ! (1 ∷ 0 ∷ []) $ fjoin ! $ move ! (1 ∷ 0 ∷ []) $ fjoin ! $ move ! (1 ∷ 0 ∷ []) $ fjoin ! $ move ! (1 ∷ 0 ∷ []) $ fjoin ! $ frame ! $
-      -- [marks; values; entries; chunks; obs; the borrow; what is kept]
-      move ! (4 ∷ 5 ∷ []) $ feqI ! (List Val) (vptr b o ∷ []) (vptr b o ∷ []) refl $ fjoin3 ! $ nothing ! $ move ! (1 ∷ 0 ∷ []) $ fjoin ! $
-      move ! (1 ∷ 0 ∷ []) $ fjoin ! $ move ! (1 ∷ 0 ∷ []) $ fjoin ! $ move ! (1 ∷ 0 ∷ []) $ fjoin ! $ move ! (1 ∷ 0 ∷ []) $ fjoin ! $
-      move ! (1 ∷ []) $ fsplit ! $ move ! (1 ∷ []) $ fsplit ! $ move ! (1 ∷ 3 ∷ []) $ fjoin ! $ move ! (1 ∷ 0 ∷ []) $ fjoin ! $ move ! (1 ∷ 0 ∷ []) $ fjoin ! $ frame ! $
-      owned ! R.the-row (Is R.the-row) ((EL.makes R.the-type R′.the-plain) 𝓤 H A) (r .report) _ is $ done !))))
+      (tt, (tt, (tt, (ws .1 .1 .1 .0, (ws .1 .1 .1 .1 .0, (ws .1 .1 .1 .1 .1 .0, (ws .1 .1 .1 .1 .1 .1 .0, (r .task, tt)))))))) (tt, (tt, (tt, (long .0, (long .1, (long .2, (long .3, (tt, tt))))))))) $ says ! e $
+      -- [the last words; obs; the borrow; token 6; the tokens; what is kept]
+      nothing ! $ move ! (4 ∷ 0 ∷ []) $ fjoin ! $ move ! (4 ∷ 0 ∷ []) $ tokens-in κs qs ! $ frame ! $
+      -- [the last words; obs; the borrow; what is kept]
+      move ! (1 ∷ 2 ∷ []) $ feqI ! (List Val) (vptr b o ∷ []) (vptr b o ∷ []) refl $ fjoin3 ! $ nothing ! $ move ! (1 ∷ 0 ∷ []) $ fjoin ! $ move ! (1 ∷ 0 ∷ []) $
+      has-in κs z d ts cs es vs ms ! (ws .1 .1 .1 .0) (ws .1 .1 .1 .1 .0) (ws .1 .1 .1 .1 .1 .0) (ws .1 .1 .1 .1 .1 .1 .0) $ frame ! $
+      owned ! R.the-row (Is R.the-row) ((EL.makes R.the-type R′.the-plain) 𝓤 H A) (r .report) _ is $ done !)
 
   module _ (C : Calls 𝓤 H) (Λ : Loops 𝓤 H) (fm : FmC 𝓤 H (W .laws) C) (known : Triple 𝓤 (C #turn·move-on) (MoveOn 𝓤 H A at-mem run)) where
     walk : Is Z.the-row z (LL.vals Z.the-type Z′.the-laws z) → Is (ShrSlice (named 0) κ₀ u64) d (slice-vals d) → Is (ShrSlice (named 1) κ₁ u64) ts (slice-vals ts) → Is (MutSlice (named 2) κ₂ u64) cs (slice-vals cs)
         → Is (MutSlice (named 3) κ₃ u64) es (slice-vals es) → Is (MutSlice (named 4) κ₄ u64) vs (slice-vals vs) → Is (MutSlice (named 5) κ₅ u64) ms (slice-vals ms) → Asks
         → ent 𝓤 (onEntry 𝓤 H A step.signature κs⁺ qs⁺ a⁺ at⁺) (WpFn 𝓤 H C Λ code.function (LL.val Z.the-type Z′.the-laws z ∷ sliceVal (d .ptr) (length (d .now)) ∷ sliceVal (ts .ptr) (length (ts .now)) ∷ sliceVal (cs .ptr) (length (cs .now)) ∷ sliceVal (es .ptr) (length (es .now)) ∷ sliceVal (vs .ptr) (length (vs .now)) ∷ sliceVal (ms .ptr) (length (ms .now)) ∷ vptr b o ∷ []) Post)
     walk pz pd pt pc pe pv pm asks =
-        qed W (raw (onEntry 𝓤 H A step.signature κs⁺ qs⁺ a⁺ at⁺) ∷ []) ∵ enter ! C Λ code.function (LL.val Z.the-type Z′.the-laws z ∷ sliceVal (d .ptr) (length (d .now)) ∷ sliceVal (ts .ptr) (length (ts .now)) ∷ sliceVal (cs .ptr) (length (cs .now)) ∷ sliceVal (es .ptr) (length (es .now)) ∷ sliceVal (vs .ptr) (length (vs .now)) ∷ sliceVal (ms .ptr) (length (ms .now)) ∷ vptr b o ∷ []) _ $
+        qed W (‵ (Tokens κs qs (fsep (flft κ₆ q₆) ftrue)) ∷ ‵ (Lends κs z d ts cs es vs ms (fsep Ref ftrue)) ∷ []) ∵ enter ! C Λ code.function (LL.val Z.the-type Z′.the-laws z ∷ sliceVal (d .ptr) (length (d .now)) ∷ sliceVal (ts .ptr) (length (ts .now)) ∷ sliceVal (cs .ptr) (length (cs .now)) ∷ sliceVal (es .ptr) (length (es .now)) ∷ sliceVal (vs .ptr) (length (vs .now)) ∷ sliceVal (ms .ptr) (length (ms .now)) ∷ vptr b o ∷ []) _ $
         alloc1 ! (λ l₀. alloc1 ! (λ l₁. alloc1 ! (λ l₂. alloc1 ! (λ l₃. alloc1 ! (λ l₄. alloc1 ! (λ l₅. alloc1 ! (λ l₆. alloc1 ! (λ l₇. alloc1 ! (λ l₈. alloc1 ! (λ l₉. alloc1 ! (λ l₁₀. alloc1 ! (λ l₁₁. alloc1 ! (λ l₁₂. alloc1 ! (λ l₁₃. alloc1 ! (λ l₁₄. alloc1 ! (λ l₁₅. alloc1 ! (λ l₁₆. alloc1 ! (λ l₁₇. alloc1 ! (λ l₁₈. alloc0 ! $ params1 ! $
         pass1 ! (init ! 34 refl (LL.lawful Z.the-type Z′.the-laws 𝓤 H A W .typed z _ pz .0)) $
         pass1 ! (init ! 32 refl (shr-slice-lawful 𝓤 H A W (named 0) κ₀ u64 .typed d _ pd .0)) $ pass1 ! (init ! 30 refl (shr-slice-lawful 𝓤 H A W (named 1) κ₁ u64 .typed ts _ pt .0)) $
         pass1 ! (init ! 28 refl (mut-slice-lawful 𝓤 H A W (named 2) κ₂ u64 .typed cs _ pc .0)) $ pass1 ! (init ! 26 refl (mut-slice-lawful 𝓤 H A W (named 3) κ₃ u64 .typed es _ pe .0)) $
         pass1 ! (init ! 24 refl (mut-slice-lawful 𝓤 H A W (named 4) κ₄ u64 .typed vs _ pv .0)) $ pass1 ! (init ! 22 refl (mut-slice-lawful 𝓤 H A W (named 5) κ₅ u64 .typed ms _ pm .0)) $
         pass1 ! (init ! 20 refl (tt, tt)) $ pass0 ! $
-        -- [_18; …; _17; …; …; _0; …; what `step` has at entry]: the four tables are lent on
-        assigns ! (addr ! (from ! (fld ! refl (hop ! (look-in ! 28 (sub ! 0 refl (whole !))) (stop !))))) (from ! (stop !)) (init ! 16 refl (tt, tt)) $
-        assigns ! (agg ! (and-then ! (load ! (from ! (stop !)) (look ! 16 refl)) (and-then ! (load ! (from ! (fld ! refl (stop !))) (look-in ! 28 (sub ! 1 refl (whole !)))) (no-more !)))) (from ! (stop !)) (init ! 14 refl (tt, (tt, (record { fits = pc .0 .1 .0 }, tt)))) $
-        assigns ! (addr ! (from ! (fld ! refl (hop ! (look-in ! 26 (sub ! 0 refl (whole !))) (stop !))))) (from ! (stop !)) (init ! 12 refl (tt, tt)) $
-        assigns ! (agg ! (and-then ! (load ! (from ! (stop !)) (look ! 12 refl)) (and-then ! (load ! (from ! (fld ! refl (stop !))) (look-in ! 26 (sub ! 1 refl (whole !)))) (no-more !)))) (from ! (stop !)) (init ! 10 refl (tt, (tt, (record { fits = pe .0 .1 .0 }, tt)))) $
-        assigns ! (addr ! (from ! (fld ! refl (hop ! (look-in ! 24 (sub ! 0 refl (whole !))) (stop !))))) (from ! (stop !)) (init ! 8 refl (tt, tt)) $
-        assigns ! (agg ! (and-then ! (load ! (from ! (stop !)) (look ! 8 refl)) (and-then ! (load ! (from ! (fld ! refl (stop !))) (look-in ! 24 (sub ! 1 refl (whole !)))) (no-more !)))) (from ! (stop !)) (init ! 6 refl (tt, (tt, (record { fits = pv .0 .1 .0 }, tt)))) $
-        assigns ! (addr ! (from ! (fld ! refl (hop ! (look-in ! 22 (sub ! 0 refl (whole !))) (stop !))))) (from ! (stop !)) (init ! 4 refl (tt, tt)) $
-        assigns ! (agg ! (and-then ! (load ! (from ! (stop !)) (look ! 4 refl)) (and-then ! (load ! (from ! (fld ! refl (stop !))) (look-in ! 22 (sub ! 1 refl (whole !)))) (no-more !)))) (from ! (stop !)) (init ! 2 refl (tt, (tt, (record { fits = pm .0 .1 .0 }, tt)))) $
-        move ! (38 ∷ []) $ use1 W (‵ (Observed t) ⊛ ‵ Borrowed ⊛ ‵ (flft κ₆ q₆) ⊛ ‵ Tokens ⊛ ‵ Lends ⊛ ‵ Keeps) apart $ split ! $ move ! (1 ∷ []) $ split ! $ move ! (1 ∷ []) $ split ! $ move ! (1 ∷ []) $ split ! $ move ! (1 ∷ []) $ split ! $
-        -- [what is lent on; what is kept; the tokens; token 6; the borrow; obs; _18; …]
-        move ! (5 ∷ 4 ∷ 3 ∷ 2 ∷ 0 ∷ 1 ∷ []) $
+        -- [_18; …; _17; …; …; _0; …; the tokens; what the parameters own]: the four tables are lent on
+        lends-on ! 4 10 11 28 16 14 cs (pc .0 .1 .0) refl refl refl refl refl refl refl refl $
+        lends-on ! 5 12 13 26 12 10 es (pe .0 .1 .0) refl refl refl refl refl refl refl refl $
+        lends-on ! 6 14 15 24 8 6 vs (pv .0 .1 .0) refl refl refl refl refl refl refl refl $
+        lends-on ! 7 16 17 22 4 2 ms (pm .0 .1 .0) refl refl refl refl refl refl refl refl $
+        move ! (39 ∷ []) $ lends-out κs z d ts cs es vs ms ! $ move ! (1 ∷ []) $ fsplit ! $ move ! (1 ∷ []) $ drop ! $ fsplit3 ! $ drop ! $
+        -- [obs; the borrow; what is lent on; what is kept; _18; …; the tokens]
+        move ! (42 ∷ []) $ tokens-out κs qs ! $ move ! (1 ∷ []) $ fsplit ! $ move ! (1 ∷ []) $ drop ! $ move ! (2 ∷ 3 ∷ 0 ∷ 1 ∷ []) $
+        -- [obs; the borrow; token 6; the tokens; what is lent on; what is kept; _18; …]
         opens ! tt T.the-row {h = t} b o (λ us. spelt ! T.the-row (Is T.the-row) (shows 𝓤 H A T.the-row) (LL.vals T.the-type T′.the-laws) (LL.tells T.the-type T′.the-laws) fullShare t us b o $
         move ! (1 ∷ []) $ peeks ! T.the-row (Is T.the-row) (shows 𝓤 H A T.the-row) t (LL.vals T.the-type T′.the-laws t) (λ is. drop ! $
         -- [the task's cell; the open borrow; obs; auth; the tokens; what is lent on; what is kept; _18; …]
         assigns ! (of-opd ! (load ! (from ! (hop ! (look ! 27 refl) (stop !))) (look-raw ! 0 refl))) (from ! (stop !)) (init ! 7 refl (LL.lawful T.the-type T′.the-laws 𝓤 H A W .typed t _ is .0)) $
         move ! (4 ∷ 5 ∷ []) $ use2 W (raw (MoveOn 𝓤 H A at-mem run .pre to)) (asked asks is) $
         calls-at ! fm (MoveOn 𝓤 H A at-mem run) known to (and-then ! (load ! (from ! (stop !)) (look ! 40 refl)) (and-then ! (load ! (from ! (stop !)) (look ! 38 refl)) (and-then ! (load ! (from ! (stop !)) (look ! 36 refl)) (and-then ! (load ! (from ! (stop !)) (look ! 20 refl)) (and-then ! (load ! (from ! (stop !)) (look ! 16 refl)) (and-then ! (load ! (from ! (stop !)) (look ! 12 refl)) (and-then ! (load ! (from ! (stop !)) (look ! 8 refl)) (and-then ! (load ! (from ! (stop !)) (look ! 6 refl)) (no-more !))))))))) (λ w.
-        use1 W (later (some (λ (r : Turned). (‵ Tokens ⊛ ‵ (U.the-row .own r (w ∷ []))) ⊛ raw (ensured 𝓤 H A move-on.ended (move-on.clauses 𝓤 H A at-mem run) κs a tt r)))) (id⊢ 𝓤 _) $ await ! tt $ pick ! (λ r.
+        use1 W (later (some (λ (r : Turned). (‵ (Tokens κs qs ftrue) ⊛ ‵ (U.the-row .own r (w ∷ []))) ⊛ raw (ensured 𝓤 H A move-on.ended (move-on.clauses 𝓤 H A at-mem run) κs a tt r)))) (id⊢ 𝓤 _) $ await ! tt $ pick ! (λ r.
         split ! $ move ! (1 ∷ []) $ use1 W (some (λ (ws : Last). ‵ (lasts move-on.ended κs a ws) ⊛ raw (fact 𝓤 (Said r ws)))) (id⊢ 𝓤 _) $ pick ! (λ ws. split ! $ move ! (1 ∷ []) $ heard ! (Said r ws) (λ e.
         move ! (1 ∷ []) $ split ! $ move ! (1 ∷ []) $ peeks ! U.the-row (Is U.the-row) (shows 𝓤 H A U.the-row) r (w ∷ []) (λ got. drop ! $
         -- [the tokens; the last values; the task's cell; the open borrow; obs; auth; what is kept; _18; …]

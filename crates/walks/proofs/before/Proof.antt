@@ -2,7 +2,6 @@ use Prim.Native.Nat.{_-_}
 use mathlib.Core.Path.{_≡_, refl, sym, ap, _∙_}
 use native.Mathlib.Omega.{arith}
 use Rattle.rules.specs.declared.Chunk.{Chunk}
-use Rattle.rules.specs.Words.{chunkNo}
 use Rattle.rules.specs.Walks.{beforeFrom}
 use Rattle.rows.specs.Rows.{chunkRows}
 use Rattle.walks.proofs.Laws.{before-spent, before-here, before-out, before-next}
@@ -10,7 +9,7 @@ use Rattle.walks.proofs.before.Statement.{statement}
 use Rattle.walks.proofs.before.Tie as tie
 
 abbrev Inv-loop : tie.InvT-loop
-Inv-loop z chunks x at₀ left₀ at left = beforeFrom z (chunkRows (z .chunks) chunks) (z .chunks) (chunkNo at₀) x ≡ beforeFrom z (chunkRows (z .chunks) chunks) left (chunkNo at) x
+Inv-loop z chunks x at₀ left₀ at left = beforeFrom z (chunkRows (z .chunks) chunks) (z .chunks) at₀ x ≡ beforeFrom z (chunkRows (z .chunks) chunks) left at x
 
 abbrev μ-loop : tie.MeasureT-loop
 μ-loop z chunks x at₀ left₀ at left = left
@@ -22,10 +21,10 @@ chunk-at-requires : tie.Need-chunk-at-requires Inv-loop μ-loop
 chunk-at-requires c κs = omega arith
 
 returns : tie.Need-returns Inv-loop μ-loop
-returns c = sym (c .before .before .before .before .loop .inv ∙ before-here _ _ _ _ (ap (λ (x : Chunk). x .next) (c .before .before .chunk-at .ensures)) _ _ (omega arith) (c .if1 .taken))
+returns c = sym (c .before .before .before .before .before .before .loop .inv ∙ before-here _ _ _ _ (ap (λ (x : Chunk). x .next) (c .before .before .before .before .chunk-at .ensures)) _ _ (omega arith) (c .if1 .taken))
 
 returns-2 : tie.Need-returns-2 Inv-loop μ-loop
-returns-2 c = sym (c .before .before .before .before .before .before .loop .inv ∙ before-out _ _ _ _ (ap (λ (x : Chunk). x .next) (c .before .before .before .before .chunk-at .ensures)) _ _ (c .before .before .if1 .left) (c .if2 .taken))
+returns-2 c = sym (c .before .before .before .before .before .before .before .before .loop .inv ∙ before-out _ _ _ _ (ap (λ (x : Chunk). x .next) (c .before .before .before .before .before .before .chunk-at .ensures)) _ _ (c .before .before .if1 .left) (c .if2 .taken))
 
 sub-left : tie.Need-sub-left Inv-loop μ-loop
 sub-left c = omega arith
@@ -34,7 +33,7 @@ loop-less : tie.Need-loop-less Inv-loop μ-loop
 loop-less c = omega arith
 
 loop-again : tie.Need-loop-again Inv-loop μ-loop
-loop-again c = c .before .before .before .before .before .before .loop .inv ∙ before-next _ _ _ _ (ap (λ (x : Chunk). x .next) (c .before .before .before .before .chunk-at .ensures)) _ _ (omega arith) (c .before .before .if1 .left) (c .if2 .left)
+loop-again c = c .before .before .before .before .before .before .before .before .loop .inv ∙ before-next _ _ _ _ (ap (λ (x : Chunk). x .next) (c .before .before .before .before .before .before .chunk-at .ensures)) _ _ (omega arith) (c .before .before .if1 .left) (c .if2 .left)
 
 returns-3 : tie.Need-returns-3 Inv-loop μ-loop
 returns-3 c = sym (c .before .loop .inv ∙ before-spent _ _ _ _ refl _ _ (c .loop-test .left))

@@ -22,10 +22,10 @@ task-row-requires : tie.Need-task-row-requires Inv-loop μ-loop
 task-row-requires c κs = omega arith
 
 returns : tie.Need-returns Inv-loop μ-loop
-returns c = sym (c .before .before .before .before .loop .inv ∙ some-here (held-some (c .before .before .before .before .before .before .args .h)) _ _ _ (omega arith) _ (c .before .before .task-row .ensures) (rw (eq-eqb _ _ (c .if1 .taken))))
+returns c = sym (c .before .before .before .before .before .loop .inv ∙ some-here (held-some (c .before .before .before .before .before .before .before .args .h)) _ _ _ (omega arith) _ (c .before .before .before .task-row .ensures) (rw (eq-eqb _ _ (c .if1 .taken))))
 
 returns-2 : tie.Need-returns-2 Inv-loop μ-loop
-returns-2 c = sym (c .before .before .before .before .before .before .loop .inv ∙ some-here (held-some (c .before .before .before .before .before .before .before .before .args .h)) _ _ _ (omega arith) _ (c .before .before .before .before .task-row .ensures) (rw (ne-eqb _ _ (c .before .before .if1 .left), eq-eqb _ _ (c .if2 .taken))))
+returns-2 c = sym (c .before .before .before .before .before .before .before .before .loop .inv ∙ some-here (held-some (c .before .before .before .before .before .before .before .before .before .before .args .h)) _ _ _ (omega arith) _ (c .before .before .before .before .before .before .task-row .ensures) (rw (ne-eqb _ _ (c .before .before .before .if1 .left), eq-eqb _ _ (c .if2 .taken))))
 
 add-i : tie.Need-add-i Inv-loop μ-loop
 add-i c = omega arith
@@ -34,7 +34,7 @@ loop-less : tie.Need-loop-less Inv-loop μ-loop
 loop-less c = omega arith
 
 loop-again : tie.Need-loop-again Inv-loop μ-loop
-loop-again c = c .before .before .before .before .before .before .loop .inv ∙ some-next (held-some (c .before .before .before .before .before .before .before .before .args .h)) _ _ _ (omega arith) _ (c .before .before .before .before .task-row .ensures) (rw (ne-eqb _ _ (c .before .before .if1 .left), ne-eqb _ _ (c .if2 .left)))
+loop-again c = c .before .before .before .before .before .before .before .before .loop .inv ∙ some-next (held-some (c .before .before .before .before .before .before .before .before .before .before .args .h)) _ _ _ (omega arith) _ (c .before .before .before .before .before .before .task-row .ensures) (rw (ne-eqb _ _ (c .before .before .before .if1 .left), ne-eqb _ _ (c .if2 .left)))
 
 returns-3 : tie.Need-returns-3 Inv-loop μ-loop
 returns-3 c = sym (c .before .loop .inv ∙ some-done (held-some (c .before .before .before .args .h)) _ _ _ (c .loop-test .left))

@@ -8,10 +8,10 @@ use Rattle.walks.proofs.lowest_free.Statement.{statement}
 use Rattle.walks.proofs.lowest_free.Tie as tie
 
 abbrev Inv-loop : tie.InvT-loop
-Inv-loop z entries tasks h₀ left₀ h left = (freeFrom (entryRows (z .chunks * z .entries) entries) (taskRows (z .tasks) tasks) (z .handles) 0 ≡ freeFrom (entryRows (z .chunks * z .entries) entries) (taskRows (z .tasks) tasks) left h) × (h + left ≡ z .handles)
+Inv-loop z entries tasks n₀ left₀ n left = (freeFrom (entryRows (z .chunks * z .entries) entries) (taskRows (z .tasks) tasks) (z .handles) 0 ≡ freeFrom (entryRows (z .chunks * z .entries) entries) (taskRows (z .tasks) tasks) left n) × (n + left ≡ z .handles)
 
 abbrev μ-loop : tie.MeasureT-loop
-μ-loop z entries tasks h₀ left₀ h left = left
+μ-loop z entries tasks n₀ left₀ n left = left
 
 loop-holds : tie.Need-loop-holds Inv-loop μ-loop
 loop-holds c = (refl, omega arith)
@@ -22,8 +22,8 @@ is-free-requires c κs = (omega arith, omega arith)
 returns : tie.Need-returns Inv-loop μ-loop
 returns c = sym (c .before .before .before .loop .inv .0 ∙ free-here _ _ _ _ (omega arith) (sym (c .before .is-free .ensures) ∙ c .if1 .taken))
 
-add-h : tie.Need-add-h Inv-loop μ-loop
-add-h c = omega arith
+add-n : tie.Need-add-n Inv-loop μ-loop
+add-n c = omega arith
 
 sub-left : tie.Need-sub-left Inv-loop μ-loop
 sub-left c = omega arith
@@ -46,7 +46,7 @@ lowest-free-spec =
     loop-holds
     is-free-requires
     returns
-    add-h
+    add-n
     sub-left
     loop-less
     loop-again

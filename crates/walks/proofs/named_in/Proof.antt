@@ -22,7 +22,7 @@ entry-row-requires : tie.Need-entry-row-requires Inv-loop μ-loop
 entry-row-requires c κs = omega arith
 
 returns : tie.Need-returns Inv-loop μ-loop
-returns c = sym (c .before .before .before .before .loop .inv ∙ some-here (named-some (c .before .before .before .before .before .before .args .h)) _ _ _ (omega arith) _ (c .before .before .entry-row .ensures) (eq-eqb _ _ (c .if1 .taken)))
+returns c = sym (c .before .before .before .before .before .loop .inv ∙ some-here (named-some (c .before .before .before .before .before .before .before .args .h)) _ _ _ (omega arith) _ (c .before .before .before .entry-row .ensures) (eq-eqb _ _ (c .if1 .taken)))
 
 add-i : tie.Need-add-i Inv-loop μ-loop
 add-i c = omega arith
@@ -31,7 +31,7 @@ loop-less : tie.Need-loop-less Inv-loop μ-loop
 loop-less c = omega arith
 
 loop-again : tie.Need-loop-again Inv-loop μ-loop
-loop-again c = c .before .before .before .before .loop .inv ∙ some-next (named-some (c .before .before .before .before .before .before .args .h)) _ _ _ (omega arith) _ (c .before .before .entry-row .ensures) (ne-eqb _ _ (c .if1 .left))
+loop-again c = c .before .before .before .before .before .loop .inv ∙ some-next (named-some (c .before .before .before .before .before .before .before .args .h)) _ _ _ (omega arith) _ (c .before .before .before .entry-row .ensures) (ne-eqb _ _ (c .if1 .left))
 
 returns-2 : tie.Need-returns-2 Inv-loop μ-loop
 returns-2 c = sym (c .before .loop .inv ∙ some-done (named-some (c .before .before .before .args .h)) _ _ _ (c .loop-test .left))

@@ -8,8 +8,8 @@ use Rattle.writes.proofs.slot.Tie as tie
 chunk-at-requires : tie.Need-chunk-at-requires
 chunk-at-requires c κs = search needs
 
-add-t14 : tie.Need-add-t14
-add-t14 c = let e = ap (λ (x : Chunk). x .used) (c .chunk-at .ensures) in let l = c .before .before .before .before .pre .placed .1 in omega arith
+add-row : tie.Need-add-row
+add-row c = let e = ap (λ (x : Chunk). x .used) (c .chunk-at .ensures) in let l = c .before .before .before .before .pre .placed .1 in omega arith
 
 put-chunk-requires : tie.Need-put-chunk-requires
 put-chunk-requires c κs = search needs
@@ -31,7 +31,7 @@ slot-spec =
     tie.close
     (tie.spec
     chunk-at-requires
-    add-t14
+    add-row
     put-chunk-requires
     put-entry-requires
     same-length

@@ -189,8 +189,23 @@ fn handles_and_marks_without_shape() {
                 ..*task(t, 2)
             };
         }),
+        ("undeleted at 19", |t| t.handles[2].deleted = false),
+        ("another handle at 19", |t| task(t, 2).old = Some(1)),
     ];
     expect(&worked(), false, changes);
+}
+
+#[test]
+fn removals_hold_a_deleted_handle() {
+    for count in 5..=10 {
+        let mut tables = with_keys(1);
+        start(&mut tables, 0, REMOVE, 1, 0, 0);
+        steps(&mut tables, 0, count);
+        assert_eq!(stage(&tables, 0), 11 + count);
+        assert!(tables.has_shape());
+        tables.handles[0].deleted = false;
+        assert!(!tables.has_shape(), "undeleted at {}", 11 + count);
+    }
 }
 
 #[test]
@@ -214,7 +229,6 @@ fn tasks_with_shape() {
                 ..*task(t, 2)
             };
         }),
-        ("undeleted at 19", |t| t.handles[2].deleted = false),
         ("undeleted at 13", |t| {
             task(t, 2).stage = Stage::PublishAbsence;
             t.handles[2].deleted = false;

@@ -35,8 +35,8 @@ same-length c = search needs
 returns-2 : tie.Need-returns-2
 returns-2 c = rw (lt-leb _ _ (c .before .before .before .before .if1 .left), ← own (c .before .before), eq-eqb _ _ (c .if2 .taken))
 
-move-on-requires : tie.Need-move-on-requires
-move-on-requires c κs =
+lend-requires : tie.Need-lend-requires
+lend-requires c κs =
     let row = c .before .before .before .before .before .before .before in
     let s = lent (start row) in
     let z = start row .args .z in
@@ -65,7 +65,7 @@ same-length-6 c = search needs
 returns-3 : tie.Need-returns-3
 returns-3 c =
     let row = c .before .before .before .before .before .before .before .before .before .before .before .before .before .before .before .before .before .before .before .before in
-    let moved = c .before .before .before .before .before .before .before .before .before .before .before .before .move-on in
+    let moved = c .before .before .before .before .before .before .before .before .before .before .before .before .lend in
     let put = c .before .before .put-task-row in
     let a = start row .args in
     let with : List ℕ → Tables = λ ts. tables (a .z) (a .directory .now) ts (moved .last .1 .1 .1 .0) (moved .last .1 .1 .1 .1 .0) (moved .last .1 .1 .1 .1 .1 .0) (moved .last .1 .1 .1 .1 .1 .1 .0) in
@@ -79,7 +79,7 @@ step-spec =
     task-row-requires
     same-length
     returns-2
-    move-on-requires
+    lend-requires
     put-task-row-requires
     same-length-2
     same-length-3

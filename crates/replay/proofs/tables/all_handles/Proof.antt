@@ -1,13 +1,14 @@
 use Prim.Native.Nat.{_-_, _≤_}
 use borrow.Author.Needs.{needs}
+use Rattle.rules.specs.Words.{limits}
 use Rattle.replay.proofs.tables.all_handles.Statement.{statement}
 use Rattle.replay.proofs.tables.all_handles.Tie as tie
 
 abbrev Inv-loop : tie.InvT-loop
-Inv-loop out₀ at values marks n₀ h₀ out n h = h ≤ 560
+Inv-loop out₀ at values marks n₀ h₀ out n h = h ≤ limits .handles
 
 abbrev μ-loop : tie.MeasureT-loop
-μ-loop out₀ at values marks n₀ h₀ out n h = 560 - h
+μ-loop out₀ at values marks n₀ h₀ out n h = limits .handles - h
 
 loop-holds : tie.Need-loop-holds Inv-loop μ-loop
 loop-holds c = search needs

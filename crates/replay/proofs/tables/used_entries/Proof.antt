@@ -1,14 +1,15 @@
 use Prim.Native.Nat.{_-_, _≤_}
 use native.Mathlib.Omega.{arith}
 use borrow.Author.Needs.{needs}
+use Rattle.rules.specs.Words.{limits}
 use Rattle.replay.proofs.tables.used_entries.Statement.{statement}
 use Rattle.replay.proofs.tables.used_entries.Tie as tie
 
 abbrev Inv-loop : tie.InvT-loop
-Inv-loop out₀ at i used entries n₀ e₀ out n e = e ≤ 32
+Inv-loop out₀ at i used entries n₀ e₀ out n e = e ≤ limits .entries
 
 abbrev μ-loop : tie.MeasureT-loop
-μ-loop out₀ at i used entries n₀ e₀ out n e = 32 - e
+μ-loop out₀ at i used entries n₀ e₀ out n e = limits .entries - e
 
 loop-holds : tie.Need-loop-holds Inv-loop μ-loop
 loop-holds c = search needs

@@ -5,16 +5,16 @@ use borrow.Author.Needs.{needs}
 use borrow.Author.Tests.{not-true, not-false}
 use Rattle.rules.specs.Shape.{each, taskRight}
 use Rattle.rows.specs.Rows.{taskOf, taskRows}
-use Rattle.shape.specs.Parts.{kept}
+use Rattle.shape.specs.Parts.{asked}
 use Rattle.shape.proofs.Rows.{rest, each-start, each-end, each-fails, each-passes}
 use Rattle.shape.proofs.tasks.tasks_right.Statement.{statement}
 use Rattle.shape.proofs.tasks.tasks_right.Tie as tie
 
 abbrev Inv-loop : tie.InvT-loop
-Inv-loop z tasks chunks entries size i₀ i = each (taskRight z (kept z chunks entries)) 0 (taskRows (z .tasks) tasks) ≡ rest (taskRight z (kept z chunks entries)) (taskOf tasks) size i
+Inv-loop z tasks chunks entries marks size i₀ i = each (taskRight z (asked z chunks entries marks)) 0 (taskRows (z .tasks) tasks) ≡ rest (taskRight z (asked z chunks entries marks)) (taskOf tasks) size i
 
 abbrev μ-loop : tie.MeasureT-loop
-μ-loop z tasks chunks entries size i₀ i = size - i
+μ-loop z tasks chunks entries marks size i₀ i = size - i
 
 loop-holds : tie.Need-loop-holds Inv-loop μ-loop
 loop-holds c = each-start _ _ _

@@ -2,7 +2,6 @@ use Prim.Native.Nat.{_*_, _-_, _<_}
 use mathlib.Core.Path.{_≡_, refl, sym, _∙_}
 use mathlib.Core.Logic.{⊎-elim}
 use native.Mathlib.Omega.{arith}
-use Rattle.rules.specs.Words.{chunkNo, entryNo}
 use Rattle.rules.specs.Tables.{chunkAt}
 use Rattle.rules.specs.Walks.{locateFrom, presentFrom}
 use Rattle.rows.specs.Rows.{directoryOf, chunkRows, entryRows}
@@ -14,22 +13,22 @@ use Rattle.stages.proofs.scan.walk.Statement.{statement}
 use Rattle.stages.proofs.scan.walk.Tie as tie
 
 abbrev Inv-loop : tie.InvT-loop
-Inv-loop z directory chunks entries marks from to at left found₀ e₀ steps₀ found e steps = (locateFrom z (chunkRows (z .chunks) chunks) (z .chunks) (directoryOf directory .first) from ≡ chunkNo at) × (at < z .chunks) × (presentFrom z (entryRows (z .chunks * z .entries) entries) marks (chunkNo at) from to (z .entries) (chunkAt (chunkRows (z .chunks) chunks) (chunkNo at) .head) ≡ presentFrom z (entryRows (z .chunks * z .entries) entries) marks (chunkNo at) from to steps (entryNo e))
+Inv-loop z directory chunks entries marks from to at left e₀ steps₀ e steps = (locateFrom z (chunkRows (z .chunks) chunks) (z .chunks) (directoryOf directory .first) from ≡ at) × (at .0 < z .chunks) × (presentFrom z (entryRows (z .chunks * z .entries) entries) marks at from to (z .entries) (chunkAt (chunkRows (z .chunks) chunks) at .head) ≡ presentFrom z (entryRows (z .chunks * z .entries) entries) marks at from to steps e)
 
 abbrev μ-loop : tie.MeasureT-loop
-μ-loop z directory chunks entries marks from to at left found₀ e₀ steps₀ found e steps = steps
+μ-loop z directory chunks entries marks from to at left e₀ steps₀ e steps = steps
 
 abbrev Inv-walk : tie.InvT-walk
-Inv-walk z directory chunks entries marks from to at₀ left₀ found₀ at left found = (locateFrom z (chunkRows (z .chunks) chunks) (z .chunks) (directoryOf directory .first) from ≡ locateFrom z (chunkRows (z .chunks) chunks) left (chunkNo at) from) × (at < z .chunks)
+Inv-walk z directory chunks entries marks from to at₀ left₀ at left = (locateFrom z (chunkRows (z .chunks) chunks) (z .chunks) (directoryOf directory .first) from ≡ locateFrom z (chunkRows (z .chunks) chunks) left at from) × (at .0 < z .chunks)
 
 abbrev μ-walk : tie.MeasureT-walk
-μ-walk z directory chunks entries marks from to at₀ left₀ found₀ at left found = left
+μ-walk z directory chunks entries marks from to at₀ left₀ at left = left
 
 directory-row-requires : tie.Need-directory-row-requires Inv-loop μ-loop Inv-walk μ-walk
 directory-row-requires c κs = omega arith
 
 walk-holds : tie.Need-walk-holds Inv-loop μ-loop Inv-walk μ-walk
-walk-holds c = (rw (c .directory-row .ensures), rw (c .directory-row .ensures) (c .before .before .before .before .before .pre .3))
+walk-holds c = (rw (c .before .directory-row .ensures), rw (c .before .directory-row .ensures) (c .before .before .before .before .before .before .pre .3))
 
 chunk-at-requires : tie.Need-chunk-at-requires Inv-loop μ-loop Inv-walk μ-walk
 chunk-at-requires c κs = omega arith
@@ -47,13 +46,13 @@ walk-again : tie.Need-walk-again Inv-loop μ-loop Inv-walk μ-walk
 walk-again c = let the-goes-on = c .before .goes-on in (c .before .before .before .before .before .walk .inv .0 ∙ on-next _ _ _ _ (c .before .before .before .before .chunk-at .ensures) _ _ (omega arith) (sym (the-goes-on .ensures) ∙ c .if2 .taken), ltb-true _ _ (and-left _ _ (sym (the-goes-on .ensures) ∙ c .if2 .taken)))
 
 loop-holds : tie.Need-loop-holds Inv-loop μ-loop Inv-walk μ-walk
-loop-holds c = let the-chunk-at = c .before .chunk-at in let the-walk = c .before .before .walk in ⊎-elim (λ w. (the-walk .inv .0 ∙ on-stop _ _ _ _ (the-chunk-at .ensures) _ _ (sym (w .2 .ensures) ∙ w .3 .left), the-walk .inv .1, rw (← the-chunk-at .ensures))) (λ w. (the-walk .inv .0 ∙ locate-spent _ _ _ _ refl _ _ (w .left), the-walk .inv .1, rw (← the-chunk-at .ensures))) (c .if1 .came)
+loop-holds c = let the-chunk-at = c .before .before .chunk-at in let the-walk = c .before .before .before .walk in ⊎-elim (λ w. (the-walk .inv .0 ∙ on-stop _ _ _ _ (the-chunk-at .ensures) _ _ (sym (w .2 .ensures) ∙ w .3 .left), the-walk .inv .1, rw (← the-chunk-at .ensures))) (λ w. (the-walk .inv .0 ∙ locate-spent _ _ _ _ refl _ _ (w .left), the-walk .inv .1, rw (← the-chunk-at .ensures))) (c .before .if1 .came)
 
 returns : tie.Need-returns Inv-loop μ-loop Inv-walk μ-walk
 returns c = let the-loop = c .before .before .before .loop in λ ts vs. record { chunk = sym (the-loop .inv .0); entry = rw (the-loop .inv .0) (sym (the-loop .inv .2 ∙ present-out _ _ _ _ _ _ _ _ (c .if3 .taken))); numbered = the-loop .inv .1 }
 
 entry-at-requires : tie.Need-entry-at-requires Inv-loop μ-loop Inv-walk μ-walk
-entry-at-requires c κs = record { chunk = c .before .before .before .loop .inv .1; entry = omega arith; long = c .before .before .before .before .before .before .before .before .before .before .before .before .pre .2 }
+entry-at-requires c κs = record { chunk = c .before .before .before .loop .inv .1; entry = omega arith; long = c .before .before .before .before .before .before .before .before .before .before .before .before .before .before .pre .2 }
 
 gives-requires : tie.Need-gives-requires Inv-loop μ-loop Inv-walk μ-walk
 gives-requires c κs = omega arith
@@ -65,7 +64,7 @@ loop-less : tie.Need-loop-less Inv-loop μ-loop Inv-walk μ-walk
 loop-less c = omega arith
 
 loop-again : tie.Need-loop-again Inv-loop μ-loop Inv-walk μ-walk
-loop-again c = let the-loop = c .before .before .before .before .before .before .loop in (the-loop .inv .0, the-loop .inv .1, the-loop .inv .2 ∙ present-next _ _ _ _ _ _ _ _ (omega arith) (omega arith) _ (c .before .before .entry-at .ensures) (sym (c .before .gives .ensures) ∙ c .if4 .left))
+loop-again c = let the-loop = c .before .before .before .before .before .before .before .loop in (the-loop .inv .0, the-loop .inv .1, the-loop .inv .2 ∙ present-next _ _ _ _ _ _ _ _ (omega arith) (omega arith) _ (c .before .before .before .entry-at .ensures) (sym (c .before .before .gives .ensures) ∙ c .before .if4 .left))
 
 returns-2 : tie.Need-returns-2 Inv-loop μ-loop Inv-walk μ-walk
 returns-2 c = let the-loop = c .before .loop in λ ts vs. record { chunk = sym (the-loop .inv .0); entry = rw (the-loop .inv .0) (sym (the-loop .inv .2 ∙ present-spent _ _ _ _ _ _ _ _ (c .loop-test .left))); numbered = the-loop .inv .1 }

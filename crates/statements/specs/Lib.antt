@@ -1,0 +1,3 @@
+pub mod Runs
+pub mod Answers
+pub mod Sound

@@ -1,0 +1,103 @@
+/* A host whose tables nobody has written: each is memory of its own, of exactly its length, so that a checker of memory sees a word
+ * read before it is written, and any past a table's end. It makes the fresh directory there, works it, and splits a chunk. */
+#include "../include/kamrduch.h"
+
+#include <stdio.h>
+#include <stdlib.h>
+
+static uint64_t *directory, *tasks, *chunks, *entries, *values, *marks, *answer;
+
+#define TABLES                                                                                               \
+    directory, KAMRDUCH_DIRECTORY_LENGTH, tasks, KAMRDUCH_TASKS_LENGTH, chunks, KAMRDUCH_CHUNKS_LENGTH, entries, \
+        KAMRDUCH_ENTRIES_LENGTH, values, KAMRDUCH_VALUES_LENGTH, marks, KAMRDUCH_MARKS_LENGTH
+#define ANSWER answer, KAMRDUCH_ANSWER_LENGTH
+
+static void expect(int right, const char *what)
+{
+    if (!right) {
+        fprintf(stderr, "fresh: %s\n", what);
+        exit(1);
+    }
+}
+
+static uint64_t *words(size_t length)
+{
+    uint64_t *made = malloc(length * sizeof *made);
+    expect(made != NULL, "no memory");
+    return made;
+}
+
+/* task 0 does an operation: its last report, and how many steps it took */
+static unsigned steps;
+
+static uint64_t does(uint64_t operation, uint64_t key, uint64_t argument, uint64_t function)
+{
+    uint64_t report = kamrduch_start(TABLES, 0, operation, key, argument, function, ANSWER);
+    for (steps = 0; report == KAMRDUCH_MOVED_ON; steps++)
+        report = kamrduch_step(TABLES, 0, ANSWER);
+    return report;
+}
+
+static uint64_t in_chunk(uint64_t c, int word)
+{
+    return chunks[c * KAMRDUCH_CHUNK_WORDS + (uint64_t)word];
+}
+
+static void works(void)
+{
+    expect(does(KAMRDUCH_GET, 5, 0, 0) == KAMRDUCH_FINISHED_ABSENT && steps == 2, "get of an absent key");
+    expect(does(KAMRDUCH_PUT_IF_ABSENT, 5, 50, 0) == KAMRDUCH_FINISHED_TRUE && steps == 9, "putIfAbsent");
+    expect(does(KAMRDUCH_PUT, 5, 60, 0) == KAMRDUCH_FINISHED_DONE && steps == 5, "put");
+    expect(does(KAMRDUCH_COMPUTE, 5, 7, KAMRDUCH_ADD) == KAMRDUCH_FINISHED_TRUE, "compute");
+    expect(does(KAMRDUCH_GET, 5, 0, 0) == KAMRDUCH_FINISHED_VALUE && steps == 4 && answer[0] == 67, "get");
+}
+
+/* keys 1 to 17 split into 9 and 8 */
+static void splits(void)
+{
+    for (uint64_t key = 1; key <= 17; key++)
+        expect(does(KAMRDUCH_UPSERT, key, key, KAMRDUCH_LARGER) == KAMRDUCH_FINISHED_DONE, "upsert");
+    expect(kamrduch_begin(TABLES, 3, ANSWER) == KAMRDUCH_MOVED_ON, "begin");
+    for (int i = 0; i < 3; i++)
+        expect(kamrduch_rebalance(TABLES, ANSWER) == KAMRDUCH_MOVED_ON, "drain, copy or swap in");
+    expect(kamrduch_rebalance(TABLES, ANSWER) == KAMRDUCH_REBALANCE_FINISHED, "release");
+    uint64_t first = directory[KAMRDUCH_DIRECTORY_FIRST], second = in_chunk(first, KAMRDUCH_CHUNK_NEXT);
+    expect(in_chunk(first, KAMRDUCH_CHUNK_USED) == 9 && in_chunk(first, KAMRDUCH_CHUNK_MINIMUM) == 0, "the first new chunk");
+    expect(in_chunk(second, KAMRDUCH_CHUNK_USED) == 8 && in_chunk(second, KAMRDUCH_CHUNK_MINIMUM) == 10, "the second new chunk");
+}
+
+/* every key but 5, in order */
+static void scans(void)
+{
+    expect(does(KAMRDUCH_REMOVE, 5, 0, 0) == KAMRDUCH_FINISHED_TRUE && steps == 11, "remove");
+    uint64_t report = does(KAMRDUCH_SCAN, 0, UINT64_MAX, 0);
+    for (uint64_t key = 1; key <= 17; key++)
+        if (key != 5) {
+            while (report == KAMRDUCH_MOVED_ON)
+                report = kamrduch_step(TABLES, 0, ANSWER);
+            expect(report == KAMRDUCH_PAIR && answer[0] == key && answer[1] == key, "a pair");
+            report = kamrduch_step(TABLES, 0, ANSWER);
+        }
+    expect(report == KAMRDUCH_FINISHED_DONE, "the scan's end");
+}
+
+int main(void)
+{
+    directory = words(KAMRDUCH_DIRECTORY_LENGTH);
+    tasks = words(KAMRDUCH_TASKS_LENGTH);
+    chunks = words(KAMRDUCH_CHUNKS_LENGTH);
+    entries = words(KAMRDUCH_ENTRIES_LENGTH);
+    values = words(KAMRDUCH_VALUES_LENGTH);
+    marks = words(KAMRDUCH_MARKS_LENGTH);
+    answer = words(KAMRDUCH_ANSWER_LENGTH);
+    expect(kamrduch_fresh(TABLES, ANSWER) == KAMRDUCH_FINISHED_DONE, "fresh");
+    for (int h = 0; h < KAMRDUCH_HANDLES; h++)
+        expect(values[h] == 0 && marks[h] == 0, "a value or a mark");
+    works();
+    splits();
+    scans();
+    uint64_t *made[] = {directory, tasks, chunks, entries, values, marks, answer};
+    for (int i = 0; i < 7; i++)
+        free(made[i]);
+    return 0;
+}
