@@ -1,9 +1,8 @@
 -- The marked cases hold of the calls, since from fresh the shape holds before each.
-use mathlib.Core.Path.{_≡_, refl, sym, ap, _∙_}
+use mathlib.Core.Path.{_≡_, refl, ap, _∙_}
 use mathlib.Core.List.{List, [], _∷_, map}
 use Rattle.rules.specs.Words.{limits}
 use Rattle.rules.specs.Tables.{Tables}
-use Rattle.rules.specs.Rebalance.{Outcome}
 use Rattle.rules.specs.Calls.{fresh, does, calls}
 use Rattle.rules.specs.Cases.{Line, Said, runs, says, markedCases}
 use Rattle.rules.specs.Cases.Line.{reports, shows}

@@ -1,5 +1,5 @@
 -- The three demands, for a reader who knows document 01. Beyond the rules (crates/rules/specs) these files, and no other, are to be believed; the rest serves proofs:
---   this file 66   crates/statements/specs/Runs.antt 65, Answers.antt 97, Sound.antt 72   crates/calls/specs/Promise.antt 65   crates/host/specs/Linked.antt 22 (lines)
+--   this file 66   crates/statements/specs/Runs.antt 65, Answers.antt 95, Sound.antt 72   crates/calls/specs/Promise.antt 65   crates/host/specs/Linked.antt 22 (lines)
 -- What the code ensures is the contract of each public call (crates/directory, crates/host), with no `requires`: Promise, Makes and Answered below, at the limits.
 use Prim.Native.Nat.{ℕ, suc}
 use mathlib.Core.Path.{_≡_}

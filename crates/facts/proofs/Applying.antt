@@ -1,29 +1,22 @@
 -- What each of the seven writes leaves, where it is allowed.
-use Prim.Native.Nat.{ℕ, _≤_, _<_}
-use mathlib.Core.Path.{_≡_, refl, sym, ap, _∙_}
-use mathlib.Core.Bool.{Bool, true, false}
-use mathlib.Core.List.{List, [], _∷_, List·Memᴰ}
-use native.Mathlib.Nat.{le-refl}
+use Prim.Native.Nat.{ℕ, _≤_}
+use mathlib.Core.Path.{_≡_, refl}
+use mathlib.Core.List.{List·Memᴰ}
 use native.Mathlib.Omega.{arith}
 use lib.Dec.{ltb}
-use lib.ListN.{length, getD, set, length-set}
+use lib.ListN.{length, getD, length-set}
 use borrow.Author.Tests.{ltb-true, ltb-false}
 use Rattle.rules.specs.declared.Sizes.{Sizes}
-use Rattle.rules.specs.declared.Task.{Task}
-use Rattle.rules.specs.declared.Chunk.{Chunk}
-use Rattle.rules.specs.declared.Entry.{Entry}
 use Rattle.rules.specs.declared.ChunkNo.{ChunkNo}
 use Rattle.rules.specs.declared.EntryNo.{EntryNo}
-use Rattle.rules.specs.declared.HandleNo.{HandleNo}
 use Rattle.rules.specs.declared.Write.{Write}
 use Rattle.rules.specs.declared.Write.the-variants as write
-use Rattle.rules.specs.Words.{pick}
 use Rattle.rules.specs.Tables.{Tables}
 use Rattle.rules.specs.Stages.{apply, applyLink}
 use Rattle.laws.proofs.Tests.{picked}
 use Rattle.laws.proofs.Lists.{set-keeps}
 use Rattle.statements.specs.Sound.{Limited}
-use Rattle.facts.specs.Facts.{listed, Tabled, Waits, Allowed, Tasked}
+use Rattle.facts.specs.Facts.{listed, Tabled, Waits, Allowed}
 use Rattle.facts.proofs.Writes.{Written, nothing-written, slot-written, name-written}
 use Rattle.facts.proofs.Linking.{after-written, after-linked, head-written, head-linked}
 

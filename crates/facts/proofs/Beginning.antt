@@ -1,33 +1,27 @@
 -- Begin and drain keep the facts.
-use Prim.Native.Nat.{ℕ, zero, suc, _+_, _*_, _≤_, _<_}
-use mathlib.Core.Path.{_≡_, refl, sym, ap, _∙_, subst}
-use mathlib.Core.Logic.{_⊎_, inl, inr, ⊎-elim, ⊎-map, _≢_}
-use mathlib.Core.Bool.{Bool, true, false}
-use mathlib.Core.List.{List, [], _∷_, List·Memᴰ}
-use native.Mathlib.Nat.{le-trans, le-refl}
+use Prim.Native.Nat.{ℕ, _≤_, _<_}
+use mathlib.Core.Path.{_≡_, refl, sym, ap, _∙_}
+use mathlib.Core.Logic.{_⊎_, ⊎-elim, _≢_}
+use mathlib.Core.List.{List}
+use native.Mathlib.Nat.{le-refl}
 use native.Mathlib.Omega.{arith}
 use lib.Dec.{eqb, ltb}
-use lib.ListN.{length, getD, set, length-set}
+use lib.ListN.{length, set}
 use borrow.Author.Tests.{ltb-false, eqb-true}
 use Rattle.rules.specs.declared.Sizes.{Sizes}
 use Rattle.rules.specs.declared.Directory.{Directory}
-use Rattle.rules.specs.declared.Task.{Task}
 use Rattle.rules.specs.declared.Chunk.{Chunk}
-use Rattle.rules.specs.declared.Entry.{Entry}
 use Rattle.rules.specs.declared.ChunkNo.{ChunkNo}
-use Rattle.rules.specs.declared.EntryNo.{EntryNo}
-use Rattle.rules.specs.Words.{pick, NONE, chunkNo, noChunk, unused, live, new, retired, idle, toDrain, toCopy, toSwap, toRelease}
-use Rattle.rules.specs.Tables.{Tables, chunkAt, entryAt, chunk, task}
+use Rattle.rules.specs.Words.{NONE, chunkNo, noChunk, unused, live, new, idle, toDrain, toCopy}
+use Rattle.rules.specs.Tables.{Tables, chunkAt, chunk, task}
 use Rattle.rules.specs.Walks.{locate, InRange}
 use Rattle.rules.specs.Rebalance.{Outcome, unusedCount, publishedOn, frozenOf, begins, drains}
-use Rattle.laws.specs.Counts.{Every}
 use Rattle.laws.proofs.Tests.{picked}
 use Rattle.views.specs.Views.{Links}
 use Rattle.views.proofs.Rows.{chunk-put}
 use Rattle.statements.specs.Sound.{Limited}
-use Rattle.facts.specs.Facts.{RowRight, ListRight, listed, Chained, KeyInRange, Roles, Rebalancing, Tabled, Same, Tasked, Kept}
-use Rattle.facts.proofs.Sames.{same-put, range-kept, chained-kept, Quiet, quiet-keys, tasked-kept, list-quiet}
-use Rattle.facts.proofs.Writes.{inside, same-chunk}
+use Rattle.facts.specs.Facts.{RowRight, ListRight, listed, KeyInRange, Roles, Rebalancing, Tabled, Same, Kept}
+use Rattle.facts.proofs.Sames.{same-put, range-kept, chained-kept, quiet-keys, tasked-kept, list-quiet}
 use Rattle.facts.proofs.Going.{located}
 
 module _ (z : Sizes) (lim : Limited z) (s : Tables) (kept : Kept z s) where

@@ -1,27 +1,25 @@
 -- Copy keeps the facts.
-use Prim.Native.Nat.{ℕ, zero, suc, _+_, _*_, _/_, _≤_, _<_}
-use mathlib.Core.Path.{_≡_, refl, sym, ap, _∙_, subst}
-use mathlib.Core.Logic.{_⊎_, inl, inr, ⊎-elim, ⊎-map, _≢_}
-use mathlib.Core.Bool.{Bool, true, false}
-use mathlib.Core.List.{List, [], _∷_, List·Memᴰ}
-use native.Mathlib.Nat.{le-trans, le-refl, zero-add, min-le-left}
+use Prim.Native.Nat.{ℕ, _+_, _/_, _≤_, _<_}
+use mathlib.Core.Path.{_≡_, refl, sym, ap, _∙_}
+use mathlib.Core.Logic.{_⊎_, ⊎-elim, _≢_}
+use mathlib.Core.Bool.{true}
+use mathlib.Core.List.{List}
+use native.Mathlib.Nat.{le-trans, min-le-left}
 use native.Mathlib.Omega.{arith}
-use lib.Dec.{eqb, ltb, leb}
+use lib.Dec.{leb}
 use lib.ListN.{length, getD, set, take, drop, length-take, length-drop}
-use borrow.Author.Tests.{leb-true, leb-false}
+use borrow.Author.Tests.{leb-false}
 use Rattle.rules.specs.Walks.{InRange}
 use Rattle.rules.specs.Map.{Ascends}
 use Rattle.views.specs.Copies.{entryKey, filled}
 use Rattle.rules.specs.declared.Sizes.{Sizes}
 use Rattle.rules.specs.declared.Directory.{Directory}
-use Rattle.rules.specs.declared.Task.{Task}
 use Rattle.rules.specs.declared.Chunk.{Chunk}
 use Rattle.rules.specs.declared.Entry.{Entry}
 use Rattle.rules.specs.declared.ChunkNo.{ChunkNo}
-use Rattle.rules.specs.declared.EntryNo.{EntryNo}
-use Rattle.rules.specs.Words.{pick, NONE, chunkNo, noChunk, unused, live, new, retired, toCopy, toSwap, toRelease}
+use Rattle.rules.specs.Words.{NONE, chunkNo, noChunk, unused, live, new, toCopy, toSwap}
 use Rattle.rules.specs.Tables.{Tables, emptyEntry, chunkAt, entryAt, chunk, task, withDirectory, withChunks, withEntries}
-use Rattle.rules.specs.Rebalance.{Outcome, unusedCount, unusedFrom, namingFrom, fill, makes, copies}
+use Rattle.rules.specs.Rebalance.{Outcome, unusedCount, unusedFrom, namingFrom, makes, copies}
 use Rattle.rules.specs.Shape.{numbers}
 use Rattle.laws.specs.Counts.{Every}
 use Rattle.laws.proofs.Tests.{picked}
@@ -30,7 +28,7 @@ use Rattle.views.proofs.Copies.{fill-is}
 use Rattle.views.proofs.Entries.{links-length}
 use Rattle.views.proofs.Naming.{naming-rising, naming-length, naming-every, rising-above, rising-take, rising-drop, rising-from, rising-grows, take-below, getD-in, every-take, every-drop, unused-first, unused-next}
 use Rattle.statements.specs.Sound.{Limited}
-use Rattle.facts.specs.Facts.{ListRight, listed, Roles, Made, Rebalancing, Tabled, Tasked, Kept}
+use Rattle.facts.specs.Facts.{listed, Roles, Made, Rebalancing, Tabled, Tasked, Kept}
 use Rattle.facts.proofs.Numbers.{number-in, number-none}
 use Rattle.facts.proofs.Putting.{Based, based-of}
 use Rattle.facts.proofs.Making.{newRow, made-other, made-here, made-range, made-keys, made-list, made-task, based-made}

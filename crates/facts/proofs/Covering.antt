@@ -7,7 +7,6 @@ use Rattle.rules.specs.declared.Sizes.{Sizes}
 use Rattle.rules.specs.declared.Entry.{Entry}
 use Rattle.rules.specs.declared.ChunkNo.{ChunkNo}
 use Rattle.rules.specs.declared.EntryNo.{EntryNo}
-use Rattle.rules.specs.Words.{live}
 use Rattle.rules.specs.Tables.{Tables, chunk, entry, entryAt}
 use Rattle.rules.specs.Walks.{locate, linked, InRange, chain}
 use Rattle.rules.specs.Map.{Ascends}

@@ -1,22 +1,18 @@
 -- The facts hold of fresh tables.
-use Prim.Native.Nat.{ℕ, zero, suc, _+_, _*_, _≤_, _<_}
-use mathlib.Core.Path.{_≡_, refl, sym, ap, _∙_, subst}
+use Prim.Native.Nat.{ℕ, zero, suc, _*_, _≤_, _<_}
+use mathlib.Core.Path.{_≡_, refl, ap, _∙_}
 use mathlib.Core.Logic.{_⊎_, inl, inr, ⊎-elim, _≢_}
-use mathlib.Core.Bool.{Bool, true, false}
-use mathlib.Core.List.{List, [], _∷_, List·Memᴰ, List·Memᴰ·head, List·Memᴰ·not-nil}
-use native.Mathlib.Nat.{le-refl}
+use mathlib.Core.List.{List, [], List·Memᴰ·head, List·Memᴰ·not-nil}
 use native.Mathlib.Omega.{arith}
 use lib.ListN.{length, getD, set, replicate, length-replicate, length-set}
-use Rattle.rules.specs.Walks.{InRange}
 use Rattle.rules.specs.declared.Sizes.{Sizes}
 use Rattle.rules.specs.declared.Directory.{Directory}
-use Rattle.rules.specs.declared.Task.{Task}
 use Rattle.rules.specs.declared.Chunk.{Chunk}
 use Rattle.rules.specs.declared.Entry.{Entry}
 use Rattle.rules.specs.declared.ChunkNo.{ChunkNo}
 use Rattle.rules.specs.declared.EntryNo.{EntryNo}
-use Rattle.rules.specs.Words.{NONE, chunkNo, noChunk, noEntry, unused, live, idle}
-use Rattle.rules.specs.Tables.{Tables, idleTask, emptyChunk, emptyEntry, chunkAt, entryAt}
+use Rattle.rules.specs.Words.{NONE, chunkNo, noChunk, unused, live, idle}
+use Rattle.rules.specs.Tables.{idleTask, emptyChunk, emptyEntry, chunkAt, entryAt}
 use Rattle.rules.specs.Rebalance.{withStatus}
 use Rattle.rules.specs.Shape.{liveCount}
 use Rattle.rules.specs.Calls.{fresh}
@@ -25,7 +21,7 @@ use Rattle.views.specs.Views.{Links, Chain}
 use Rattle.views.proofs.Rows.{chunk-put, live-set, one}
 use Rattle.views.proofs.Entries.{links-view}
 use Rattle.statements.specs.Sound.{Limited}
-use Rattle.facts.specs.Facts.{RowRight, SlotRight, ListRight, listed, Chained, Roles, Rebalancing, Tabled, Tasked, Kept}
+use Rattle.facts.specs.Facts.{RowRight, ListRight, listed, Chained, Roles, Rebalancing, Tasked, Kept}
 use Rattle.facts.proofs.Numbers.{number-none}
 
 -- every row of such a table is the one, past its end too

@@ -1,32 +1,27 @@
 -- Linking an entry keeps the facts of the tables and of every task.
-use Prim.Native.Nat.{ℕ, zero, suc, _+_, _*_, _≤_, _<_}
-use mathlib.Core.Path.{_≡_, refl, sym, ap, _∙_, subst}
-use mathlib.Core.Logic.{_⊎_, inl, inr, ⊎-elim, ⊎-map, _≢_}
-use mathlib.Core.Bool.{Bool, true, false}
-use mathlib.Core.List.{List, [], _∷_, List·Memᴰ, List·Memᴰ·cases-cons, Memᴰ·cast}
+use Prim.Native.Nat.{ℕ, _*_, _≤_, _<_}
+use mathlib.Core.Path.{_≡_, refl, sym, ap, _∙_}
+use mathlib.Core.Logic.{_⊎_, inl, inr, ⊎-elim, _≢_}
+use mathlib.Core.List.{List, List·Memᴰ, List·Memᴰ·cases-cons, Memᴰ·cast}
 use native.Mathlib.Nat.{le-trans, le-refl}
 use native.Mathlib.Omega.{arith}
-use lib.ListN.{length, getD, set, length-set}
-use lib.Dec.{ltb}
-use borrow.Author.Tests.{lt-ltb, le-ltb, ltb-true, ltb-false}
+use lib.ListN.{length, set, length-set}
 use Rattle.rules.specs.declared.Sizes.{Sizes}
 use Rattle.rules.specs.declared.Directory.{Directory}
-use Rattle.rules.specs.declared.Task.{Task}
 use Rattle.rules.specs.declared.Chunk.{Chunk}
 use Rattle.rules.specs.declared.Entry.{Entry}
 use Rattle.rules.specs.declared.ChunkNo.{ChunkNo}
 use Rattle.rules.specs.declared.EntryNo.{EntryNo}
-use Rattle.rules.specs.Words.{pick, NONE, chunkNo, entryNo, noEntry, unused, live, new}
+use Rattle.rules.specs.Words.{noEntry, live}
 use Rattle.rules.specs.Tables.{chunkAt, entryAt, row}
-use Rattle.rules.specs.Walks.{placeFrom, InRange}
+use Rattle.rules.specs.Walks.{InRange}
 use Rattle.rules.specs.Stages.{withNext, withHead}
-use Rattle.rules.specs.Shape.{numbers}
 use Rattle.laws.specs.Counts.{Every}
 use Rattle.views.specs.Views.{Links, putIn, startOf}
 use Rattle.views.proofs.Rows.{chunk-put, entry-put}
 use Rattle.views.proofs.Entries.{links-length, links-view, links-put, start-kept, start-new, place-in, put-new, put-old, put-cases}
 use Rattle.statements.specs.Sound.{Limited}
-use Rattle.facts.specs.Facts.{RowRight, SlotRight, ListRight, listed, Tabled, Same, Waits}
+use Rattle.facts.specs.Facts.{RowRight, SlotRight, listed, Tabled, Same, Waits}
 use Rattle.facts.proofs.Numbers.{number-in, head-right}
 use Rattle.facts.proofs.Sames.{same-all, same-put, Quiet, Grown, tabled-kept, tasked-kept, list-quiet}
 use Rattle.facts.proofs.Writes.{Written, below, inside, same-chunk}

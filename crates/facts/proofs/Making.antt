@@ -1,13 +1,13 @@
 -- A new chunk made of a list of entries: the facts of the tables then, and the keys of its list.
-use Prim.Native.Nat.{ℕ, zero, suc, _+_, _*_, _≤_, _<_}
-use mathlib.Core.Path.{_≡_, refl, sym, ap, _∙_, subst}
-use mathlib.Core.Logic.{_⊎_, inl, inr, ⊎-elim, ⊎-map, _≢_}
-use mathlib.Core.Bool.{Bool, true, false}
-use mathlib.Core.List.{List, [], _∷_, List·Memᴰ}
+use Prim.Native.Nat.{ℕ, _+_, _≤_, _<_}
+use mathlib.Core.Path.{_≡_, refl, sym, ap, _∙_}
+use mathlib.Core.Logic.{_⊎_, inr, ⊎-elim, _≢_}
+use mathlib.Core.Bool.{true}
+use mathlib.Core.List.{List}
 use native.Mathlib.Nat.{le-trans, le-refl, zero-add}
 use native.Mathlib.Omega.{arith}
 use lib.Dec.{eqb, ltb}
-use lib.ListN.{length, getD, set, length-set}
+use lib.ListN.{length, set}
 use borrow.Author.Tests.{ltb-true, ltb-false}
 use Rattle.rules.specs.Walks.{InRange}
 use Rattle.rules.specs.Map.{Ascends}
@@ -18,8 +18,8 @@ use Rattle.rules.specs.declared.Chunk.{Chunk}
 use Rattle.rules.specs.declared.Entry.{Entry}
 use Rattle.rules.specs.declared.ChunkNo.{ChunkNo}
 use Rattle.rules.specs.declared.EntryNo.{EntryNo}
-use Rattle.rules.specs.Words.{pick, NONE, noChunk, noEntry, entryNo, unused, live, new, retired}
-use Rattle.rules.specs.Tables.{emptyChunk, emptyEntry, chunkAt, entryAt}
+use Rattle.rules.specs.Words.{pick, noChunk, noEntry, entryNo, unused, live, new, retired}
+use Rattle.rules.specs.Tables.{emptyEntry, chunkAt, entryAt}
 use Rattle.rules.specs.Shape.{numbers}
 use Rattle.laws.specs.Counts.{Every}
 use Rattle.laws.proofs.Tests.{by-test}
@@ -27,7 +27,7 @@ use Rattle.views.specs.Views.{Links}
 use Rattle.views.proofs.Copies.{filled-length, filled-other, filled-links, filled-rows, filled-every}
 use Rattle.views.proofs.Entries.{links-length, links-view}
 use Rattle.statements.specs.Sound.{Limited}
-use Rattle.facts.specs.Facts.{RowRight, SlotRight, ListRight, listed, ChunkOfKey, Tasked}
+use Rattle.facts.specs.Facts.{SlotRight, listed, Tasked}
 use Rattle.facts.proofs.Numbers.{number-none}
 use Rattle.facts.proofs.Putting.{Based, based-put, put-here, put-other, put-task, put-range, put-keys}
 

@@ -1,18 +1,18 @@
 -- Laws of the shape's tests on one number.
-use Prim.Native.Nat.{ℕ, zero, suc, _≤_, _<_}
+use Prim.Native.Nat.{ℕ, _≤_, _<_}
 use mathlib.Core.Path.{_≡_, refl, sym, _∙_}
-use mathlib.Core.Logic.{_⊎_, inl, inr, ⊎-map, _≢_}
+use mathlib.Core.Logic.{_⊎_, ⊎-map, _≢_}
 use mathlib.Core.Bool.{Bool, true, false}
 use mathlib.Core.List.{List, [], _∷_}
 use native.Mathlib.Nat.{le-trans}
 use native.Mathlib.Omega.{arith}
-use lib.Dec.{eqb, ltb, leb}
+use lib.Dec.{eqb, ltb}
 use borrow.Author.Tests.{lt-ltb, ltb-true, eqb-true, eqb-false}
 use Rattle.rules.specs.declared.Sizes.{Sizes}
 use Rattle.rules.specs.declared.Entry.{Entry}
 use Rattle.rules.specs.declared.ChunkNo.{ChunkNo}
 use Rattle.rules.specs.declared.EntryNo.{EntryNo}
-use Rattle.rules.specs.Words.{pick, _or_, NONE}
+use Rattle.rules.specs.Words.{_or_, NONE}
 use Rattle.rules.specs.Shape.{numbers, heldAs}
 use Rattle.laws.proofs.Tests.{picked, or-cases}
 use Rattle.rules.specs.declared.Task.{Task}
@@ -31,17 +31,8 @@ pub number-cases : (size n : ℕ) → numbers size n ≡ true → (n < size) ⊎
 number-cases size n h = ⊎-map (ltb-true n size) (eqb-true n NONE) (or-cases (ltb n size) (eqb n NONE) h)
 
 -- what is always held lies in its table
-pub held-one : (how size n : ℕ) → how ≤ 1 → eqb how 0 ≡ false → heldAs how size n ≡ true → n < size
-held-one how size n le ne h = ltb-true n size (rw (one) at h)
-  where
-    not-zero : how ≢ 0
-    not-zero = eqb-false how 0 ne
-
-    one : how ≡ 1
-    one = omega (arith, not-zero)
-
-pub held-always : (how size n : ℕ) → eqb how 3 ≡ true → heldAs how size n ≡ true → n < size
-held-always how size n e h = ltb-true n size (rw (eqb-true how 3 e) at h)
+pub held-always : (how size n : ℕ) → eqb how 0 ≡ false → eqb how 2 ≡ false → heldAs how size n ≡ true → n < size
+held-always how size n zero two h = ltb-true n size (rw (zero, two) at h)
 
 -- a list's head is a used entry, or none
 pub head-right : (z : Sizes) (es : List Entry) (c : ChunkNo) (used : ℕ) → used ≤ z .entries → (k : ℕ) (e : EntryNo) (l : List EntryNo) → Links z es c used k e l → numbers (z .entries) (e .0) ≡ true

@@ -1,13 +1,11 @@
 -- A chunk that is not live, written anew with its entries, leaves the facts of all others.
-use Prim.Native.Nat.{ℕ, zero, suc, _+_, _*_, _≤_, _<_}
-use mathlib.Core.Path.{_≡_, refl, sym, ap, _∙_, subst}
-use mathlib.Core.Logic.{_⊎_, inl, inr, ⊎-elim, ⊎-map, _≢_}
-use mathlib.Core.Bool.{Bool, true, false}
+use Prim.Native.Nat.{ℕ, _*_, _<_}
+use mathlib.Core.Path.{_≡_, refl, ap, _∙_}
+use mathlib.Core.Logic.{_⊎_, ⊎-elim, ⊎-map, _≢_}
 use mathlib.Core.List.{List, [], _∷_, List·Memᴰ, List·Memᴰ·head, List·Memᴰ·not-nil}
 use native.Mathlib.Nat.{le-trans, le-refl}
 use native.Mathlib.Omega.{arith}
-use lib.Dec.{eqb}
-use lib.ListN.{length, getD, set, length-set}
+use lib.ListN.{length, set, length-set}
 use borrow.Author.Tests.{ne-eqb}
 use Rattle.rules.specs.Walks.{InRange}
 use Rattle.rules.specs.declared.Sizes.{Sizes}
@@ -17,7 +15,7 @@ use Rattle.rules.specs.declared.Chunk.{Chunk}
 use Rattle.rules.specs.declared.Entry.{Entry}
 use Rattle.rules.specs.declared.ChunkNo.{ChunkNo}
 use Rattle.rules.specs.declared.EntryNo.{EntryNo}
-use Rattle.rules.specs.Words.{pick, NONE, live, retired}
+use Rattle.rules.specs.Words.{NONE, live}
 use Rattle.rules.specs.Tables.{chunkAt, entryAt}
 use Rattle.rules.specs.Shape.{liveCount}
 use Rattle.laws.specs.Counts.{Every}
@@ -26,7 +24,7 @@ use Rattle.views.proofs.Rows.{chunk-put, live-set, one}
 use Rattle.views.proofs.Entries.{links-below}
 use Rattle.views.proofs.Chunks.{chain-frame, chain-live, chain-next}
 use Rattle.statements.specs.Sound.{Limited}
-use Rattle.facts.specs.Facts.{ListRight, listed, Chained, KeyInRange, Tabled, ChunkOfKey, EntryHeld, Tasked}
+use Rattle.facts.specs.Facts.{ListRight, listed, Chained, KeyInRange, Tabled, EntryHeld, Tasked}
 use Rattle.facts.proofs.Sames.{list-quiet}
 use Rattle.facts.proofs.Writes.{same-chunk}
 

@@ -1,15 +1,14 @@
 -- The facts hold of every reached table.
 use Prim.Native.Nat.{ℕ, zero, suc}
-use mathlib.Core.Bool.{Bool, true, false}
 use lib.Dec.{eqb}
 use borrow.Author.Tests.{eqb-true}
 use Rattle.rules.specs.declared.Sizes.{Sizes}
 use native.Mathlib.Omega.{arith}
-use Rattle.rules.specs.Words.{pick, limits, toDrain, toCopy, toSwap, toRelease}
+use Rattle.rules.specs.Words.{limits, toDrain, toCopy, toSwap, toRelease}
 use Rattle.rules.specs.Tables.{Tables}
 use Rattle.rules.specs.Rebalance.{Outcome, rebalanceDoes}
 use Rattle.rules.specs.Shape.{shape}
-use Rattle.rules.specs.Calls.{Call, fresh, does, calls}
+use Rattle.rules.specs.Calls.{Call, does, calls}
 use Rattle.rules.specs.Calls.Call.{start, step, begin, rebalance}
 use Rattle.laws.proofs.Tests.{picked}
 use Rattle.statements.specs.Sound.{Limited}

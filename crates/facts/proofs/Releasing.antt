@@ -1,14 +1,14 @@
 -- Release keeps the facts.
-use Prim.Native.Nat.{ℕ, zero, suc, _+_, _*_, _≤_, _<_}
-use mathlib.Core.Path.{_≡_, refl, sym, ap, _∙_, subst}
-use mathlib.Core.Logic.{_⊎_, inl, inr, ⊎-elim, ⊎-map, _≢_}
+use Prim.Native.Nat.{ℕ, zero, suc, _≤_, _<_}
+use mathlib.Core.Path.{_≡_, refl, sym, ap, _∙_}
+use mathlib.Core.Logic.{_⊎_, inl, inr, ⊎-elim, _≢_}
 use mathlib.Core.Bool.{Bool, true, false, false≢true}
-use mathlib.Core.List.{List, [], _∷_, List·Memᴰ}
-use native.Mathlib.Nat.{le-trans, le-refl, not-suc-le-zero}
+use mathlib.Core.List.{List, [], _∷_}
+use native.Mathlib.Nat.{le-refl}
 use native.Mathlib.Decide.{ℕ-discrete}
 use native.Mathlib.Omega.{arith}
-use lib.Dec.{eqb, ltb}
-use lib.ListN.{length, getD, set, length-set}
+use lib.Dec.{eqb}
+use lib.ListN.{length, getD, set}
 use borrow.Author.Tests.{eqb-false}
 use Rattle.rules.specs.declared.Sizes.{Sizes}
 use Rattle.rules.specs.declared.Directory.{Directory}
@@ -17,7 +17,7 @@ use Rattle.rules.specs.declared.Chunk.{Chunk}
 use Rattle.rules.specs.declared.Entry.{Entry}
 use Rattle.rules.specs.declared.ChunkNo.{ChunkNo}
 use Rattle.rules.specs.declared.EntryNo.{EntryNo}
-use Rattle.rules.specs.Words.{pick, _and_, NONE, chunkNo, noChunk, noEntry, unused, live, new, retired, idle, toCopy, toSwap, toRelease}
+use Rattle.rules.specs.Words.{_and_, NONE, chunkNo, noChunk, unused, live, new, idle, toRelease}
 use Rattle.rules.specs.Tables.{Tables, idleTask, emptyChunk, emptyEntry, withDirectory, chunkAt, entryAt, chunk, task, putChunk}
 use Rattle.rules.specs.Rebalance.{Outcome, heldChunk, clears, releases}
 use Rattle.laws.proofs.Tests.{picked, by-test}
@@ -26,7 +26,7 @@ use Rattle.views.specs.Copies.{cleared}
 use Rattle.views.proofs.Copies.{clears-is, cleared-length, cleared-other, cleared-here}
 use Rattle.views.proofs.Entries.{links-view}
 use Rattle.statements.specs.Sound.{Limited}
-use Rattle.facts.specs.Facts.{RowRight, ListRight, listed, Roles, Rebalancing, Tabled, Tasked, Kept}
+use Rattle.facts.specs.Facts.{ListRight, listed, Roles, Rebalancing, Tabled, Kept}
 use Rattle.facts.proofs.Numbers.{number-none}
 use Rattle.facts.proofs.Writes.{same-chunk}
 use Rattle.facts.proofs.Putting.{Based, based-of, based-put, put-here, put-other, put-task}

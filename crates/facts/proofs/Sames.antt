@@ -1,12 +1,11 @@
 -- What a write that leaves status, frozen mark, minimum key and next of every chunk keeps.
-use Prim.Native.Nat.{ℕ, zero, suc, _+_, _*_, _≤_, _<_}
-use mathlib.Core.Path.{_≡_, refl, sym, ap, _∙_, subst}
+use Prim.Native.Nat.{ℕ, _≤_, _<_}
+use mathlib.Core.Path.{_≡_, refl, sym, ap, _∙_}
 use mathlib.Core.Logic.{_⊎_, inl, inr, ⊎-elim, ⊎-map, _≢_}
-use mathlib.Core.Bool.{Bool, true, false}
-use mathlib.Core.List.{List, [], _∷_, List·Memᴰ}
+use mathlib.Core.List.{List, _∷_, List·Memᴰ}
 use native.Mathlib.Nat.{le-trans}
 use native.Mathlib.Omega.{arith}
-use lib.ListN.{length, getD, set, length-set}
+use lib.ListN.{length, set, length-set}
 use Rattle.rules.specs.Walks.{InRange}
 use Rattle.rules.specs.declared.Sizes.{Sizes}
 use Rattle.rules.specs.declared.Directory.{Directory}
@@ -16,17 +15,15 @@ use Rattle.rules.specs.declared.Entry.{Entry}
 use Rattle.rules.specs.declared.ChunkNo.{ChunkNo}
 use Rattle.rules.specs.declared.EntryNo.{EntryNo}
 use lib.Dec.{eqb}
-use Rattle.rules.specs.Words.{pick, NONE, unused, live, new, retired, toSwap}
+use Rattle.rules.specs.Words.{pick, unused, live, new, toSwap}
 use Rattle.rules.specs.Tables.{chunkAt, entryAt}
-use Rattle.rules.specs.Rebalance.{unusedCount}
-use Rattle.rules.specs.Shape.{liveCount}
 use Rattle.laws.specs.Counts.{Every}
-use Rattle.views.specs.Views.{Links, Chain}
-use Rattle.views.proofs.Rows.{chunk-put, live-set, unused-set, one}
-use Rattle.views.proofs.Entries.{links-below, links-length, links-view, links-frame}
+use Rattle.views.specs.Views.{Links}
+use Rattle.views.proofs.Rows.{chunk-put, live-set, unused-set}
+use Rattle.views.proofs.Entries.{links-length, links-view, links-frame}
 use Rattle.views.proofs.Chunks.{chain-frame}
 use Rattle.statements.specs.Sound.{Limited}
-use Rattle.facts.specs.Facts.{RowRight, SlotRight, ListRight, listed, Chained, KeyInRange, Roles, Made, Rebalancing, Tabled, Same, Holds, holdAt, ChunkOfKey, EntryHeld, Tasked, Kept}
+use Rattle.facts.specs.Facts.{ListRight, listed, Chained, KeyInRange, Roles, Made, Rebalancing, Tabled, Same, EntryHeld, Tasked}
 
 pub same-all : (cs : List Chunk) → Same cs cs
 same-all cs = record { sized = refl; live = refl; unused = refl; status = λ c. refl; min = λ c. refl; next = λ c. refl }

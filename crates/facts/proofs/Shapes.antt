@@ -1,36 +1,33 @@
 -- Tables of which the facts hold, and in which a remove past its mark holds a deleted handle, have document 01's shape.
 use Prim.Native.Nat.{ℕ, zero, suc, _+_, _*_, _≤_, _<_}
-use mathlib.Core.Path.{_≡_, refl, sym, ap, _∙_, subst}
-use mathlib.Core.Logic.{_⊎_, inl, inr, ⊎-elim, ⊎-map, _≢_}
-use mathlib.Core.Bool.{Bool, true, false, not, false≢true}
-use mathlib.Core.List.{List, [], _∷_, List·Memᴰ, List·Memᴰ·head}
-use native.Mathlib.Nat.{zero-add, le-trans, mul-le-mul-right, suc-mul}
+use mathlib.Core.Path.{_≡_, refl}
+use mathlib.Core.Logic.{_⊎_, ⊎-elim, ⊎-map, _≢_}
+use mathlib.Core.Bool.{Bool, true, false}
+use mathlib.Core.List.{List, [], _∷_, List·Memᴰ·head}
+use native.Mathlib.Nat.{zero-add, le-trans}
 use native.Mathlib.Omega.{arith}
 use lib.Dec.{eqb, ltb, leb}
-use lib.ListN.{length, getD, take, drop, length-take, length-drop}
+use lib.ListN.{length, getD, drop, length-take}
 use lib.Seq.{getD-take, getD-drop}
-use borrow.Author.Tests.{lt-ltb, le-ltb, le-leb, lt-leb, eq-eqb, ne-eqb, ltb-true, ltb-false, leb-true, leb-false, eqb-true, eqb-false}
-use Rattle.rules.specs.Walks.{InRange}
+use borrow.Author.Tests.{lt-ltb, le-leb, eq-eqb, ne-eqb, ltb-true, ltb-false, leb-true, eqb-true, eqb-false}
 use Rattle.rules.specs.declared.Sizes.{Sizes}
 use Rattle.rules.specs.declared.Directory.{Directory}
 use Rattle.rules.specs.declared.Task.{Task}
 use Rattle.rules.specs.declared.Chunk.{Chunk}
-use Rattle.rules.specs.declared.Entry.{Entry}
 use Rattle.rules.specs.declared.ChunkNo.{ChunkNo}
-use Rattle.rules.specs.declared.EntryNo.{EntryNo}
-use Rattle.rules.specs.Words.{pick, _and_, _or_, NONE, chunkNo, entryNo, unused, live, new, retired, usesFunction, idle, toDrain, toCopy, toSwap, toRelease}
-use Rattle.rules.specs.Tables.{Tables, idleTask, emptyChunk, emptyEntry, chunkAt, entryAt, chunk, entry, mark, task}
+use Rattle.rules.specs.Words.{pick, _and_, _or_, chunkNo, entryNo, unused, live, new, retired, usesFunction, idle, toDrain, toCopy, toSwap, toRelease}
+use Rattle.rules.specs.Tables.{Tables, idleTask, emptyChunk, emptyEntry, chunk, entry, mark, task}
 use Rattle.rules.specs.Rebalance.{unusedCount}
-use Rattle.rules.specs.Shape.{each, slotsOf, isNone, numbers, isEmptyEntry, isEmptyChunk, heldAs, flagAs, fitsOperation, Hold, hold, stageList, liveCount, chainCount, markAs, shape, sized, chunkRight, slotRight, chunkNumbers, chained, taskRight, holdsRight, holdsEntry, chunkFits, rebalanceFits, linkedFrom, ascendsFrom, beforeCopy, afterCopy}
-use Rattle.laws.specs.Counts.{Every, all}
+use Rattle.rules.specs.Shape.{each, slotsOf, isNone, isEmptyChunk, fitsOperation, Hold, hold, stageList, liveCount, markAs, shape, sized, chunkRight, slotRight, chunkNumbers, chained, taskRight, holdsRight, holdsEntry, chunkFits, rebalanceFits, ascendsFrom, beforeCopy, afterCopy}
+use Rattle.laws.specs.Counts.{all}
 use Rattle.laws.proofs.Tests.{picked, by-test, both, and-left, and-right, or-cases, or-left, or-right}
-use Rattle.laws.proofs.Lists.{each-by, all-at, row-within}
-use Rattle.views.specs.Views.{Links, Chain}
+use Rattle.laws.proofs.Lists.{each-by, all-at}
+use Rattle.views.specs.Views.{Links}
 use Rattle.views.proofs.Entries.{links-length, links-ascends, links-linked}
 use Rattle.views.proofs.Chunks.{chain-count, chain-live}
-use Rattle.facts.proofs.Numbers.{held-one, held-always, head-right}
+use Rattle.facts.proofs.Numbers.{held-always, head-right}
 use Rattle.statements.specs.Sound.{Limited}
-use Rattle.facts.specs.Facts.{RowRight, SlotRight, ListRight, listed, Chained, Roles, Rebalancing, Tabled, Holds, holdAt, EntryHeld, Tasked, MarksHeld, Kept}
+use Rattle.facts.specs.Facts.{RowRight, SlotRight, listed, Chained, Roles, Rebalancing, Tabled, Holds, holdAt, EntryHeld, MarksHeld, Kept}
 
 live-count-le : (cs : List Chunk) → liveCount cs ≤ length cs
 unfolding liveCount
@@ -201,8 +198,11 @@ module _ (z : Sizes) (lim : Limited z) (s : Tables) (kept : Kept z s) (deleted :
       entry-row : h .entry ≤ h .chunk
       entry-row = leb-true (h .entry) (h .chunk) (and-right (leb (h .chunk) 1) (leb (h .entry) (h .chunk)) row)
 
+      not-two : (m : ℕ) → m ≤ 1 → eqb m 2 ≡ false
+      not-two m le = ne-eqb m 2 (λ e. omega arith)
+
       at-chunk : eqb (h .chunk) 0 ≡ false → Holds z t h → t .chunk .0 < z .chunks
-      at-chunk e w = held-one (h .chunk) (z .chunks) (t .chunk .0) chunk-row e (w .chunk)
+      at-chunk e w = held-always (h .chunk) (z .chunks) (t .chunk .0) e (not-two (h .chunk) chunk-row) (w .chunk)
 
       lives : t .chunk .0 < z .chunks → 0 < chunk s (t .chunk) .status
       lives b = ⊎-elim (λ q. rw q (omega arith)) (λ q. rw (q .0) (omega arith)) (kept .tasks n .chunk-of-key b)
@@ -214,10 +214,10 @@ module _ (z : Sizes) (lim : Limited z) (s : Tables) (kept : Kept z s) (deleted :
       there w = picked (λ (b : Bool). b ≡ true) (eqb (h .entry) 0) (λ _. refl) (λ e. holds-entry n (held e))
         where
           held : eqb (h .entry) 0 ≡ false → EntryHeld z (s .chunks) (s .entries) (t .chunk) (t .entry) (t .key) (t .stage)
-          held e = kept .tasks n .entry (held-one (h .entry) (z .entries) (t .entry .0) (le-trans entry-row chunk-row) e (w .entry))
+          held e = kept .tasks n .entry (held-always (h .entry) (z .entries) (t .entry .0) e (not-two (h .entry) (le-trans entry-row chunk-row)) (w .entry))
 
       marked : Holds z t h → markAs (h .old) (mark s (t .old)) ≡ true
-      marked w = picked (λ (b : Bool). b ≡ true) (eqb (h .old) 3) (λ e. eq-eqb _ _ (deleted n e (held-always (h .old) (z .handles) (t .old .0) e (w .old)))) (λ _. refl)
+      marked w = picked (λ (b : Bool). b ≡ true) (eqb (h .old) 3) (λ e. let three = eqb-true (h .old) 3 e in eq-eqb _ _ (deleted n e (held-always (h .old) (z .handles) (t .old .0) (rw three) (rw three) (w .old)))) (λ _. refl)
 
       busy : Holds z t h → (fitsOperation (t .operation) (t .stage) and pick (usesFunction (t .operation)) (leb 1 (t .function) and leb (t .function) 3) true and holdsRight z s t h) ≡ true
       busy w = both _ _ (w .fits) (both _ _ (w .function) (both _ _ (w .chunk) (both _ _ (w .entry) (both _ _ (w .old) (both _ _ (w .new) (both _ _ (w .published) (both _ _ (w .swapped) (both _ _ (marked w) (both _ _ (in-use w) (there w))))))))))

@@ -1,40 +1,23 @@
 -- Stages 1 to 10, 13, 16 and 19 of a task: the write is allowed, and the task's row afterwards has the facts.
-use Prim.Native.Nat.{ℕ, zero, suc, _+_, _≤_, _<_}
-use mathlib.Core.Path.{_≡_, refl, sym, ap, _∙_, subst}
-use mathlib.Core.Logic.{_⊎_, inl, inr, ⊎-elim, ⊎-map, _≢_}
-use mathlib.Core.Bool.{Bool, true, false, not, false≢true}
-use mathlib.Core.List.{List, [], _∷_, List·Memᴰ, List·Memᴰ·head}
-use native.Mathlib.Nat.{le-trans, le-refl}
+use Prim.Native.Nat.{ℕ, _≤_, _<_}
+use mathlib.Core.Path.{_≡_, refl}
+use mathlib.Core.Logic.{_⊎_, inl, inr, ⊎-elim, _≢_}
+use mathlib.Core.Bool.{true, not}
+use mathlib.Core.List.{List}
 use native.Mathlib.Omega.{arith}
-use lib.Dec.{eqb, ltb, leb}
-use lib.ListN.{length, getD}
-use borrow.Author.Tests.{lt-ltb, le-ltb, le-leb, eq-eqb, ne-eqb, ltb-true, ltb-false, leb-true, eqb-true, eqb-false}
+use lib.Dec.{eqb, ltb}
+use borrow.Author.Tests.{lt-ltb, ltb-true, ltb-false, eqb-true}
 use Rattle.rules.specs.declared.Sizes.{Sizes}
 use Rattle.rules.specs.declared.Task.{Task}
-use Rattle.rules.specs.declared.Chunk.{Chunk}
-use Rattle.rules.specs.declared.Entry.{Entry}
-use Rattle.rules.specs.declared.ChunkNo.{ChunkNo}
-use Rattle.rules.specs.declared.EntryNo.{EntryNo}
-use Rattle.rules.specs.declared.HandleNo.{HandleNo}
-use Rattle.rules.specs.declared.Decision.{Decision}
-use Rattle.rules.specs.declared.Report.{Report}
-use Rattle.rules.specs.declared.Write.{Write}
 use Rattle.rules.specs.declared.Write.the-variants as write
-use Rattle.rules.specs.Words.{pick, _and_, _or_, NONE, noChunk, noEntry, noHandle, entryNo, unused, live, new, retired, usesFunction, inserts, get, put, putIfAbsent, compute, remove}
-use Rattle.rules.specs.Tables.{Tables, idleTask, withTasks, chunkAt, entryAt, chunk, entry, mark}
-use Rattle.rules.specs.Walks.{locate, find, place, lowestFree, firstPresent, InRange}
+use Rattle.rules.specs.Words.{_and_, _or_, NONE, noChunk, noEntry, noHandle, unused, live, new, retired, inserts, get, put, putIfAbsent, remove}
+use Rattle.rules.specs.Tables.{Tables, withTasks, chunk, entry, mark}
+use Rattle.rules.specs.Walks.{locate, find, place, lowestFree, InRange}
 use Rattle.rules.specs.Stages
-use Rattle.rules.specs.Shape.{numbers, heldAs, flagAs, fitsOperation}
-use Rattle.laws.specs.Counts.{Every}
-use Rattle.laws.proofs.Tests.{picked, by-test, both, or-cases}
-use Rattle.views.specs.Views.{Links}
-use Rattle.views.proofs.Entries.{links-length, find-hit, find-miss, links-below}
-use Rattle.views.proofs.Chunks.{chain-locate, chain-live}
+use Rattle.laws.proofs.Tests.{picked}
 use Rattle.statements.specs.Sound.{Limited}
-use Rattle.facts.specs.Facts.{ListRight, listed, Chained, Tabled, Holds, holdAt, ChunkOfKey, EntryHeld, Tasked, Waits, Allowed}
-use Rattle.facts.proofs.Numbers.{number-in, number-none, number-cases}
-use Rattle.facts.proofs.Operations.{throughout, implies, fits-move}
-use Rattle.facts.proofs.Shapes.{chain-short}
+use Rattle.facts.specs.Facts.{Tabled, Holds, holdAt, EntryHeld, Tasked, Waits}
+use Rattle.facts.proofs.Numbers.{number-in, number-none}
 use Rattle.facts.proofs.Writes.{slot-held, slot-written}
 use Rattle.facts.proofs.Applying.{link-applied-linked, applied-by}
 use Rattle.facts.proofs.Going

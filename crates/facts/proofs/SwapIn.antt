@@ -1,14 +1,13 @@
 -- Swap in keeps the facts: the rows that it writes are those.
-use Prim.Native.Nat.{ℕ, zero, suc, _+_, _*_, _≤_, _<_}
-use mathlib.Core.Path.{_≡_, refl, sym, ap, _∙_, subst}
-use mathlib.Core.Logic.{_⊎_, inl, inr, ⊎-elim, _≢_}
-use mathlib.Core.Bool.{Bool, true, false}
-use mathlib.Core.List.{List, [], _∷_}
+use Prim.Native.Nat.{ℕ, _+_, _≤_, _<_}
+use mathlib.Core.Path.{_≡_, refl, sym, ap, _∙_}
+use mathlib.Core.Logic.{_⊎_, ⊎-elim, _≢_}
+use mathlib.Core.List.{List}
 use native.Mathlib.Omega.{arith}
-use lib.Dec.{eqb, ltb}
+use lib.Dec.{eqb}
 use lib.ListN.{length, set, length-set}
 use lib.Seq.{getD-set-same, getD-set-other}
-use borrow.Author.Tests.{ne-eqb, lt-ltb, le-ltb, ltb-true, ltb-false, eqb-true, eqb-false}
+use borrow.Author.Tests.{lt-ltb, le-ltb, ltb-true, ltb-false, eqb-true, eqb-false}
 use Rattle.rules.specs.declared.Sizes.{Sizes}
 use Rattle.rules.specs.declared.Directory.{Directory}
 use Rattle.rules.specs.declared.Chunk.{Chunk}
@@ -20,7 +19,7 @@ use Rattle.rules.specs.Shape.{liveCount}
 use Rattle.laws.proofs.Tests.{picked}
 use Rattle.views.proofs.Rows.{live-set, one}
 use Rattle.statements.specs.Sound.{Limited}
-use Rattle.facts.specs.Facts.{Rebalancing, Kept}
+use Rattle.facts.specs.Facts.{Kept}
 use Rattle.facts.proofs.Swapping
 use Rattle.facts.proofs.Swapping.{Swapped, newOnes, beforeOld}
 

@@ -1,38 +1,35 @@
 -- Swap in keeps the facts: by what it writes to the chunks' rows.
-use Prim.Native.Nat.{ℕ, zero, suc, _+_, _*_, _≤_, _<_}
+use Prim.Native.Nat.{ℕ, _+_, _≤_, _<_}
 use mathlib.Core.Path.{_≡_, refl, sym, ap, _∙_, subst}
-use mathlib.Core.Logic.{_⊎_, inl, inr, ⊎-elim, ⊎-map, _≢_}
-use mathlib.Core.Bool.{Bool, true, false}
-use mathlib.Core.List.{List, [], _∷_, _++_, List·Memᴰ, List·Memᴰ·head, List·Memᴰ·tail, List·Memᴰ·not-nil, List·Memᴰ·cases-cons}
+use mathlib.Core.Logic.{_⊎_, inl, inr, ⊎-elim, _≢_}
+use mathlib.Core.Bool.{true}
+use mathlib.Core.List.{List, [], _∷_, _++_, List·Memᴰ, List·Memᴰ·head, List·Memᴰ·tail, List·Memᴰ·cases-cons}
 use native.Mathlib.Nat.{le-trans, le-refl}
-use native.Mathlib.Decide.{decLt}
 use native.Mathlib.Omega.{arith}
 use lib.Dec.{eqb, ltb}
-use lib.ListN.{length, getD, set}
+use lib.ListN.{length}
 use borrow.Author.Tests.{eq-eqb, ne-eqb, lt-ltb, le-ltb}
 use Rattle.rules.specs.declared.Sizes.{Sizes}
 use Rattle.rules.specs.declared.Directory.{Directory}
 use Rattle.rules.specs.declared.Task.{Task}
 use Rattle.rules.specs.declared.Chunk.{Chunk}
-use Rattle.rules.specs.declared.Entry.{Entry}
 use Rattle.rules.specs.declared.ChunkNo.{ChunkNo}
-use Rattle.rules.specs.declared.EntryNo.{EntryNo}
-use Rattle.rules.specs.Words.{pick, NONE, chunkNo, noChunk, unused, live, new, retired, toCopy, toSwap, toRelease}
+use Rattle.rules.specs.Words.{pick, NONE, chunkNo, unused, live, new, retired, toSwap, toRelease}
 use Rattle.rules.specs.Tables.{Tables, chunkAt, entryAt, chunk, task, withDirectory, withChunks}
 use Rattle.rules.specs.Walks.{beforeFrom, InRange}
 use Rattle.rules.specs.Rebalance.{withStatus, liveBefore, withNextChunk}
 use Rattle.rules.specs.Shape.{numbers, liveCount}
 use Rattle.laws.specs.Counts.{Every, Apart}
-use Rattle.laws.proofs.Tests.{picked, by-test}
+use Rattle.laws.proofs.Tests.{picked}
 use Rattle.views.specs.Views.{Links, Chain, replaced}
-use Rattle.views.proofs.Chunks.{chain-live, chain-frame, chain-swap, chain-swap-first, chain-raise, chain-apart, chain-rises, before-next, replaced-new, replaced-old, replaced-length}
+use Rattle.views.proofs.Chunks.{chain-live, chain-swap, chain-swap-first, chain-raise, chain-apart, chain-rises, before-next, replaced-new, replaced-old, replaced-length}
 use Rattle.statements.specs.Sound.{Limited}
 use Rattle.facts.specs.Facts.{RowRight, ListRight, listed, Chained, KeyInRange, Roles, Made, Rebalancing, Tabled, ChunkOfKey, EntryHeld, Tasked, Kept}
 use Rattle.facts.proofs.Numbers.{number-in, number-cases}
 use Rattle.facts.proofs.Shapes.{chain-short}
 use Rattle.facts.proofs.Sames.{list-quiet}
 use Rattle.facts.proofs.Writes.{same-chunk}
-use Rattle.facts.proofs.Putting.{chained-by, Based, based-of, next-live}
+use Rattle.facts.proofs.Putting.{chained-by}
 
 -- the new ones, of which there may be one
 abbrev pub newOnes : Sizes → Directory → List ChunkNo

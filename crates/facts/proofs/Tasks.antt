@@ -1,36 +1,26 @@
 -- Starting a task and a task's step keep the facts.
-use Prim.Native.Nat.{ℕ, zero, suc, _+_, _≤_, _<_}
-use mathlib.Core.Path.{_≡_, refl, sym, ap, _∙_, subst}
-use mathlib.Core.Logic.{_⊎_, inl, inr, ⊎-elim, ⊎-map, _≢_}
-use mathlib.Core.Bool.{Bool, true, false, not, false≢true}
-use mathlib.Core.List.{List, [], _∷_, List·Memᴰ, List·Memᴰ·head}
-use native.Mathlib.Nat.{le-trans, le-refl}
+use Prim.Native.Nat.{ℕ, _<_}
+use mathlib.Core.Path.{_≡_, refl, ap, _∙_}
+use mathlib.Core.Logic.{_≢_}
+use mathlib.Core.Bool.{Bool, true, false, false≢true}
 use native.Mathlib.Omega.{arith}
 use lib.Dec.{eqb, ltb, leb}
-use lib.ListN.{length, getD, set, length-set}
-use borrow.Author.Tests.{lt-ltb, le-ltb, le-leb, eq-eqb, ne-eqb, ltb-true, ltb-false, leb-true, eqb-true, eqb-false}
+use lib.ListN.{length, set, length-set}
+use borrow.Author.Tests.{lt-ltb, le-leb, ltb-false}
 use Rattle.rules.specs.declared.Sizes.{Sizes}
-use Rattle.rules.specs.declared.Task.{Task}
-use Rattle.rules.specs.declared.Chunk.{Chunk}
-use Rattle.rules.specs.declared.Entry.{Entry}
-use Rattle.rules.specs.declared.ChunkNo.{ChunkNo}
-use Rattle.rules.specs.declared.EntryNo.{EntryNo}
-use Rattle.rules.specs.declared.HandleNo.{HandleNo}
 use Rattle.rules.specs.declared.Decision.{Decision}
-use Rattle.rules.specs.declared.Report.{Report}
-use Rattle.rules.specs.declared.Write.{Write}
 use Rattle.rules.specs.declared.Write.the-variants as write
-use Rattle.rules.specs.Words.{pick, _and_, _or_, NONE, noChunk, noEntry, noHandle, entryNo, unused, live, new, retired, usesFunction, get, remove, scan}
-use Rattle.rules.specs.Tables.{Tables, idleTask, task, putTask, withTasks, chunkAt, entryAt}
+use Rattle.rules.specs.Words.{pick, _and_, _or_, new, usesFunction, scan}
+use Rattle.rules.specs.Tables.{Tables, idleTask, task, putTask}
 use Rattle.rules.specs.Stages
 use Rattle.rules.specs.Rebalance.{Outcome}
 use Rattle.rules.specs.Calls.{started, starts, steps}
 use Rattle.rules.specs.Shape.{fitsOperation}
-use Rattle.laws.proofs.Tests.{picked, by-test, both, or-left, or-right}
+use Rattle.laws.proofs.Tests.{picked, by-test, or-left, or-right}
 use Rattle.laws.proofs.Lists.{set-keeps}
 use Rattle.statements.specs.Sound.{Limited}
-use Rattle.facts.specs.Facts.{Tabled, Holds, holdAt, Tasked, Kept}
-use Rattle.facts.proofs.Operations.{throughout, implies, through}
+use Rattle.facts.specs.Facts.{Holds, holdAt, Tasked, Kept}
+use Rattle.facts.proofs.Operations.{implies, through}
 use Rattle.facts.proofs.Applying.{Applied, applied-by}
 use Rattle.facts.proofs.Going.{Fine, no-chunk, no-entry}
 use Rattle.facts.proofs.Ends.{decides-fine}

@@ -1,14 +1,14 @@
 -- Each write of a step keeps the facts of the tables and of every task.
-use Prim.Native.Nat.{ℕ, zero, suc, _+_, _*_, _≤_, _<_}
-use mathlib.Core.Path.{_≡_, refl, sym, ap, _∙_, subst}
-use mathlib.Core.Logic.{_⊎_, inl, inr, ⊎-elim, ⊎-map, _≢_}
-use mathlib.Core.Bool.{Bool, true, false}
-use mathlib.Core.List.{List, [], _∷_, List·Memᴰ}
+use Prim.Native.Nat.{ℕ, _+_, _≤_, _<_}
+use mathlib.Core.Path.{_≡_, refl, ap}
+use mathlib.Core.Logic.{_⊎_, inl, inr, _≢_}
+use mathlib.Core.Bool.{true}
+use mathlib.Core.List.{List, List·Memᴰ}
 use native.Mathlib.Nat.{le-trans, le-refl}
 use native.Mathlib.Numerals.{add-one}
 use native.Mathlib.Decide.{ℕ-discrete}
 use native.Mathlib.Omega.{arith}
-use lib.ListN.{length, getD, set, length-set}
+use lib.ListN.{length, set, length-set}
 use Rattle.rules.specs.declared.Sizes.{Sizes}
 use Rattle.rules.specs.declared.Directory.{Directory}
 use Rattle.rules.specs.declared.Task.{Task}
@@ -17,18 +17,18 @@ use Rattle.rules.specs.declared.Entry.{Entry}
 use Rattle.rules.specs.declared.ChunkNo.{ChunkNo}
 use Rattle.rules.specs.declared.EntryNo.{EntryNo}
 use Rattle.rules.specs.declared.HandleNo.{HandleNo}
-use Rattle.rules.specs.Words.{pick, NONE, chunkNo, entryNo, noEntry, noHandle, unused, live, new, retired, toSwap}
-use Rattle.rules.specs.Tables.{emptyChunk, chunkAt, entryAt, row}
-use Rattle.rules.specs.Stages.{withHandle, withNext, withHead}
+use Rattle.rules.specs.Words.{chunkNo, entryNo, noEntry, noHandle, unused}
+use Rattle.rules.specs.Tables.{chunkAt, entryAt, row}
+use Rattle.rules.specs.Stages.{withHandle}
 use Rattle.rules.specs.Shape.{numbers}
 use Rattle.laws.specs.Counts.{Every}
 use Rattle.views.specs.Views.{Links}
 use Rattle.views.proofs.Rows.{chunk-put, entry-put}
 use Rattle.views.proofs.Entries.{links-below}
 use Rattle.statements.specs.Sound.{Limited}
-use Rattle.facts.specs.Facts.{RowRight, SlotRight, ListRight, listed, Tabled, Same, EntryHeld, Tasked}
-use Rattle.facts.proofs.Numbers.{number-in, number-none, head-right}
-use Rattle.facts.proofs.Sames.{same-all, same-put, Quiet, tabled-kept, tasked-kept, list-quiet}
+use Rattle.facts.specs.Facts.{RowRight, SlotRight, listed, Tabled, Same, EntryHeld, Tasked}
+use Rattle.facts.proofs.Numbers.{number-none}
+use Rattle.facts.proofs.Sames.{same-all, same-put, tabled-kept, tasked-kept, list-quiet}
 
 pub same-chunk : (c d : ChunkNo) → (c ≡ d) ⊎ (c ≢ d)
 same-chunk c d = elim (ℕ-discrete (c .0) (d .0)) [ yes e ↦ inl (ap chunkNo e) | no ne ↦ inr (λ e. ne (ap (λ (c : ChunkNo). c .0) e)) ]

@@ -1,10 +1,10 @@
 -- What holds of the tables after every call: document 01's shape as propositions, and the facts that keep it.
-use Prim.Native.Nat.{ℕ, _+_, _*_, _≤_, _<_}
+use Prim.Native.Nat.{ℕ, _*_, _≤_, _<_}
 use mathlib.Core.Path.{_≡_}
 use mathlib.Core.Logic.{_⊎_, _≢_}
-use mathlib.Core.Bool.{Bool, true, false}
-use mathlib.Core.List.{List, [], _∷_, List·Memᴰ}
-use lib.Dec.{eqb, ltb, leb}
+use mathlib.Core.Bool.{true}
+use mathlib.Core.List.{List, _∷_, List·Memᴰ}
+use lib.Dec.{eqb, leb}
 use lib.ListN.{length, getD}
 use Rattle.rules.specs.declared.Sizes.{Sizes}
 use Rattle.rules.specs.declared.Directory.{Directory}
@@ -15,7 +15,7 @@ use Rattle.rules.specs.declared.ChunkNo.{ChunkNo}
 use Rattle.rules.specs.declared.EntryNo.{EntryNo}
 use Rattle.rules.specs.declared.Write.{Write}
 use Rattle.rules.specs.declared.Write.the-variants as write
-use Rattle.rules.specs.Words.{pick, _and_, NONE, noEntry, unused, live, new, retired, usesFunction, idle, toDrain, toCopy, toSwap, toRelease}
+use Rattle.rules.specs.Words.{pick, _and_, NONE, noEntry, unused, live, new, retired, usesFunction, idle, toCopy, toSwap, toRelease}
 use Rattle.rules.specs.Tables.{Tables, idleTask, emptyChunk, emptyEntry, chunkAt, entryAt, mark, task}
 use Rattle.rules.specs.Walks.{listFrom, placeFrom, InRange}
 use Rattle.rules.specs.Rebalance.{unusedCount}

@@ -1,14 +1,14 @@
 -- The lowest free handle: no entry names it, and no task holds it.
 use Prim.Native.Nat.{ℕ, zero, suc, _+_, _*_, _≤_, _<_}
-use mathlib.Core.Path.{_≡_, refl, sym, ap, _∙_}
+use mathlib.Core.Path.{_≡_, refl, sym}
 use mathlib.Core.Logic.{_≢_}
-use mathlib.Core.Bool.{Bool, true, false, not, false≢true}
+use mathlib.Core.Bool.{Bool, true, false}
 use mathlib.Core.List.{List, [], _∷_}
 use native.Mathlib.Nat.{not-suc-le-zero, le-of-suc-le-suc}
 use native.Mathlib.Omega.{arith}
 use lib.Dec.{eqb}
 use lib.ListN.{length, getD}
-use borrow.Author.Tests.{eqb-false, eq-eqb, not-true}
+use borrow.Author.Tests.{eqb-false, not-true}
 use Rattle.rules.specs.declared.Sizes.{Sizes}
 use Rattle.rules.specs.declared.Task.{Task}
 use Rattle.rules.specs.declared.Entry.{Entry}
@@ -16,9 +16,9 @@ use Rattle.rules.specs.declared.HandleNo.{HandleNo}
 use Rattle.rules.specs.Words.{pick, _or_, NONE, handleNo}
 use Rattle.rules.specs.Tables.{Tables, idleTask, emptyEntry, task, row}
 use Rattle.rules.specs.Walks.{namedIn, heldIn, free, freeFrom, lowestFree}
-use Rattle.laws.proofs.Tests.{picked, by-test, or-left, or-right}
+use Rattle.laws.proofs.Tests.{picked, or-left, or-right}
 use Rattle.laws.proofs.Lists.{row-within}
-use Rattle.handles.specs.Owned.{Row, Unnamed}
+use Rattle.handles.specs.Owned.{Unnamed}
 
 -- neither test passed
 neither : (a b : Bool) → pick a true b ≡ false → (a ≡ false) × (b ≡ false)

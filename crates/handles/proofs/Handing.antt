@@ -1,15 +1,14 @@
 -- What each call does to the tasks' holds, and that no held handle is handed out.
-use Prim.Native.Nat.{ℕ, zero, suc, _+_, _*_, _/_, _≤_, _<_}
-use mathlib.Core.Path.{_≡_, refl, sym, ap, _∙_, subst}
+use Prim.Native.Nat.{ℕ, _+_, _/_, _≤_, _<_}
+use mathlib.Core.Path.{_≡_, refl, sym, ap, _∙_}
 use mathlib.Core.Logic.{_⊎_, inl, inr, ⊎-elim, _≢_}
-use mathlib.Core.Bool.{Bool, true, false}
-use mathlib.Core.List.{List, [], _∷_}
+use mathlib.Core.List.{List}
 use native.Mathlib.Decide.{ℕ-discrete, decLt}
 use native.Mathlib.Omega.{arith}
 use lib.Dec.{eqb, ltb, leb}
 use lib.ListN.{length, getD, set, take, drop}
 use lib.Seq.{getD-set-same, getD-set-other, set-out}
-use borrow.Author.Tests.{leb-false, eqb-true}
+use borrow.Author.Tests.{leb-false}
 use Rattle.rules.specs.declared.Sizes.{Sizes}
 use Rattle.rules.specs.declared.Directory.{Directory}
 use Rattle.rules.specs.declared.Task.{Task}
@@ -20,10 +19,10 @@ use Rattle.rules.specs.declared.HandleNo.{HandleNo}
 use Rattle.rules.specs.declared.Write.{Write}
 use Rattle.rules.specs.declared.Write.the-variants as write
 use Rattle.rules.specs.declared.Decision.{Decision}
-use Rattle.rules.specs.Words.{pick, _and_, _or_, NONE, entryNo, noChunk, noEntry, noHandle, usesFunction, scan, idle, toDrain, toCopy, toSwap, toRelease}
-use Rattle.rules.specs.Tables.{Tables, idleTask, emptyChunk, emptyEntry, row, chunk, entry, task, putTask, putChunk, withDirectory}
+use Rattle.rules.specs.Words.{_and_, _or_, NONE, entryNo, noChunk, noEntry, noHandle, usesFunction, scan, idle, toDrain, toCopy, toSwap, toRelease}
+use Rattle.rules.specs.Tables.{Tables, idleTask, emptyEntry, row, chunk, entry, task, putTask, withDirectory}
 use Rattle.rules.specs.Stages
-use Rattle.rules.specs.Rebalance.{Outcome, unusedCount, unusedFrom, publishedOn, heldChunk, namingFrom, makes, fill, at, clears, begins, drains, copies, swapsIn, releases, rebalanceDoes}
+use Rattle.rules.specs.Rebalance.{Outcome, unusedCount, unusedFrom, publishedOn, heldChunk, namingFrom, makes, fill, at, begins, copies, swapsIn, releases, rebalanceDoes}
 use Rattle.rules.specs.Calls.{Call, started, starts, steps, does, calls}
 use Rattle.rules.specs.Calls.Call.{start, step, begin, rebalance}
 use Rattle.laws.proofs.Tests.{picked}
@@ -32,13 +31,11 @@ use Rattle.statements.specs.Runs.{tablesAt}
 use Rattle.statements.specs.Sound.{Limited, HoldsHandle, HandsOut}
 use Rattle.facts.specs.Facts.{Kept}
 use Rattle.facts.proofs.SwapIn.{swap-by}
-use Rattle.facts.proofs.Applying.{Applied, applied-by}
-use Rattle.facts.proofs.Going.{Fine}
+use Rattle.facts.proofs.Applying.{applied-by}
 use Rattle.facts.proofs.Ends.{decides-fine}
 use Rattle.facts.proofs.Reaching.{call-by, reached-kept, run-reached}
-use Rattle.handles.specs.Owned.{Unnamed}
 use Rattle.handles.proofs.Naming.{Passes, put}
-use Rattle.handles.proofs.Passing.{NamesRight, Passed, decides-pass}
+use Rattle.handles.proofs.Passing.{NamesRight, decides-pass}
 use Rattle.handles.proofs.Owning.{put-tasks}
 
 module _ (z : Sizes) (s : Tables) where

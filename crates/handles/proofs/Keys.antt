@@ -8,10 +8,9 @@ use lib.ListN.{replicate}
 use Rattle.rules.specs.declared.Sizes.{Sizes}
 use Rattle.rules.specs.declared.ChunkNo.{ChunkNo}
 use Rattle.rules.specs.declared.EntryNo.{EntryNo}
-use Rattle.rules.specs.declared.HandleNo.{HandleNo}
 use Rattle.rules.specs.Words.{NONE}
 use Rattle.rules.specs.Tables.{Tables, idleTask, emptyEntry, chunk, entryAt, entry, row}
-use Rattle.rules.specs.Calls.{Call, fresh, calls}
+use Rattle.rules.specs.Calls.{fresh}
 use Rattle.statements.specs.Sound.{Limited, Live, InUse}
 use Rattle.facts.specs.Facts.{Kept}
 use Rattle.rules.specs.Walks.{linked}

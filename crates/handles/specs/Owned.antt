@@ -1,15 +1,14 @@
 -- The facts of handles that keep one key to each: one-key, new-own and old-key.
-use Prim.Native.Nat.{ℕ, _≤_, _<_}
+use Prim.Native.Nat.{ℕ, _<_}
 use mathlib.Core.Path.{_≡_}
-use mathlib.Core.Logic.{_⊎_, _≢_}
+use mathlib.Core.Logic.{_≢_}
 use mathlib.Core.List.{List}
-use lib.ListN.{length, getD}
 use Rattle.rules.specs.declared.Sizes.{Sizes}
 use Rattle.rules.specs.declared.Task.{Task}
 use Rattle.rules.specs.declared.Entry.{Entry}
 use Rattle.rules.specs.declared.ChunkNo.{ChunkNo}
 use Rattle.rules.specs.declared.EntryNo.{EntryNo}
-use Rattle.rules.specs.Tables.{Tables, entryAt, task}
+use Rattle.rules.specs.Tables.{entryAt}
 
 -- a row of the entries' table
 pub record Row (z : Sizes) (c : ChunkNo) (e : EntryNo) : Type 0 where

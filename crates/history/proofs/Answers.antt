@@ -151,8 +151,8 @@ module _ (z : Sizes) (lim : Limited z) (run : ℕ → Call) where
     changed r c = inl (subst (ByChange z run n op k a f j (suc i)) (sym (r ∙ ap changeAnswer (g .started .operation))) c)
 
     by-end : op ≢ scan → Ends z s n x → Answered (x .report)
-    by-end ne (Ends.changes was d u r) = changed r (change-here z lim run n op k a f j i (before was) (w .before) (g .started) ne (b .numbered) (record { own = e; deciding = d }))
-    by-end ne (Ends.tells is d r) = ⊎-elim (λ c. absurd (false≢true (sym (c .0) ∙ is))) (λ c. changed r (change-on z lim run n op k a f j i (c .1) (quiet d))) (g .decided)
+    by-end ne (Ends.changes was d u r) = changed r (change-here z lim run n op k a f j i (w .before) (g .started) ne (record { own = e; deciding = d }))
+    by-end ne (Ends.tells is d r) = ⊎-elim (λ c. absurd (false≢true (sym (c .0) ∙ is))) (λ c. changed r (change-on z lim run n op k a f j i (c .1))) (g .decided)
     by-end ne (Ends.present was d l q right) = inr (record { never = never was d; moment = suc i; after = g .stepped (inr l); to = le-refl _; right = sym (asked m op k a f t (g .started) ne) ∙ on-present m (t .operation) (t .key) (t .argument) (t .function) (value s (t .old)) there ∙ right m })
       where
         inside : t .old .0 < z .handles

@@ -83,8 +83,8 @@ module _ (z : Sizes) (lim : Limited z) (run : ℕ → Call) (n op k a f j : ℕ)
     pub never-on : NeverDecides z run n j i → (DecidesAt z run n (suc i) → ⊥) → NeverDecides z run n j (suc i)
     never-on never quiet x since le d = ⊎-elim (λ e. quiet (rw e at d)) (λ before. never x since before d) (last x le)
 
-    pub change-on : {r : Report} → ByChange z run n op k a f j i r → (DecidesAt z run n (suc i) → ⊥) → ByChange z run n op k a f j (suc i) r
-    change-on c quiet = record { at = c .at; since = c .since; to = omega (arith, c .to); decides = c .decides; alone = λ x since le d. ⊎-elim (λ e. absurd (quiet (rw e at d))) (λ before. c .alone x since before d) (last x le); changes = c .changes; answers = c .answers }
+    pub change-on : {r : Report} → ByChange z run n op k a f j i r → ByChange z run n op k a f j (suc i) r
+    change-on c = record { at = c .at; since = c .since; to = omega (arith, c .to); decides = c .decides; answers = c .answers }
 
     -- at a deciding step the map changes by what the operation was started with
     module _ (st : Started op k a f (taskAt z run (suc i) n)) (ne : op ≢ scan) where
@@ -100,15 +100,13 @@ module _ (z : Sizes) (lim : Limited z) (run : ℕ → Call) (n op k a f j : ℕ)
       pub changes-here : n < z .tasks → DecidesAt z run n (suc i) → mapAt z run (suc (suc i)) ≡ sequential map op k a f .map
       changes-here b d = map-next z run (suc i) ∙ ap (λ (c : Call). mapThen z (tablesAt z run (suc i)) c map) (d .own) ∙ rw (lt-ltb n (z .tasks) b, d .deciding) (ap (λ (y : Effect). y .map) same)
 
-    pub change-here : NeverDecides z run n j i → j < suc i → Started op k a f (taskAt z run (suc i) n) → op ≢ scan → n < z .tasks → DecidesAt z run n (suc i) → ByChange z run n op k a f j (suc i) (changeAnswer op)
-    change-here never since st ne b d =
+    pub change-here : j < suc i → Started op k a f (taskAt z run (suc i) n) → op ≢ scan → DecidesAt z run n (suc i) → ByChange z run n op k a f j (suc i) (changeAnswer op)
+    change-here since st ne d =
         record {
           at = suc i;
           since = since;
           to = le-refl _;
           decides = d;
-          alone = λ x after le e. ⊎-elim (λ q. q) (λ before. absurd (never x after before e)) (last x le);
-          changes = changes-here st ne b d;
           answers = ap (λ (y : Effect). y .answer) (sym (same st ne)) ∙ beside-changes z lim (run-beside z run (suc i)) n (d .deciding) ∙ ap changeAnswer (st .operation);
         }
 
@@ -158,7 +156,7 @@ module _ (z : Sizes) (lim : Limited z) (run : ℕ → Call) (n op k a f j : ℕ)
       rests-ghost =
           record {
             started = g .started;
-            decided = ⊎-map (λ w. (w .0, never-on i (w .1) quiet)) (λ w. (w .0, change-on i (w .1) quiet)) (g .decided);
+            decided = ⊎-map (λ w. (w .0, never-on i (w .1) quiet)) (λ w. (w .0, change-on i (w .1))) (g .decided);
             stepped = λ l. stepped-later (suc i) (g .stepped l);
             seen = λ ne y. seen-on ne (stepped-later (suc i) (g .stepped (looking y))) (back y);
           }
@@ -203,14 +201,14 @@ module _ (z : Sizes) (lim : Limited z) (run : ℕ → Call) (n op k a f j : ℕ)
           go (Goes.on w same d f) =
               record {
                 started = onward w;
-                decided = ⊎-map (λ c. (same ∙ c .0, never-on i (c .1) (decides-not d))) (λ c. (same ∙ c .0, change-on i (c .1) (decides-not d))) (g .decided);
+                decided = ⊎-map (λ c. (same ∙ c .0, never-on i (c .1) (decides-not d))) (λ c. (same ∙ c .0, change-on i (c .1))) (g .decided);
                 stepped = λ _. own;
                 seen = λ ne y. seen-on ne own (follows f y);
               }
           go (Goes.turns w was is d u f) =
               record {
                 started = onward w;
-                decided = inr (is, change-here i (undecided was) since (g .started) (unlike u) (b .numbered) (record { own = b .call; deciding = d }));
+                decided = inr (is, change-here i since (g .started) (unlike u) (record { own = b .call; deciding = d }));
                 stepped = λ _. own;
                 seen = λ ne y. seen-on ne own (follows f y);
               }

@@ -21,7 +21,7 @@ use Rattle.rules.specs.Tables.{Tables, idleTask, emptyChunk, emptyEntry, chunkA
 use Rattle.rules.specs.Walks.{locate}
 use Rattle.rules.specs.Stages
 use Rattle.rules.specs.Rebalance.{Outcome, unusedCount, unusedFrom, publishedOn, heldChunk, namingFrom, frozenOf, at, begins, drains, copies, swapsIn, releases, rebalanceDoes, withNextChunk}
-use Rattle.rules.specs.Calls.{Call, fresh, started, starts, steps, does, calls}
+use Rattle.rules.specs.Calls.{Call, fresh, started, starts, steps, does}
 use Rattle.rules.specs.Calls.Call.{start, step, begin, rebalance}
 use Rattle.laws.proofs.Tests.{picked}
 use Rattle.views.specs.Copies.{filled}

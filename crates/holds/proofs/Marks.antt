@@ -1,8 +1,7 @@
 -- Every call keeps old-deleted, and that a taken handle is undeleted and has its value.
-use Prim.Native.Nat.{ℕ, zero, suc, _+_, _≤_, _<_}
-use mathlib.Core.Path.{_≡_, refl, sym, ap, _∙_, subst}
+use Prim.Native.Nat.{ℕ, _<_}
+use mathlib.Core.Path.{_≡_, refl, sym, ap, _∙_}
 use mathlib.Core.Logic.{_⊎_, inl, inr, ⊎-elim, _≢_}
-use mathlib.Core.Bool.{Bool, true, false}
 use mathlib.Core.List.{List}
 use native.Mathlib.Decide.{ℕ-discrete, decLt}
 use native.Mathlib.Omega.{arith}
@@ -15,11 +14,11 @@ use Rattle.rules.specs.declared.Task.{Task}
 use Rattle.rules.specs.declared.Decision.{Decision}
 use Rattle.rules.specs.declared.Write.{Write}
 use Rattle.rules.specs.declared.Write.the-variants as write
-use Rattle.rules.specs.Words.{pick, _and_, _or_, NONE, usesFunction, scan}
+use Rattle.rules.specs.Words.{_and_, _or_, NONE, usesFunction, scan}
 use Rattle.rules.specs.Tables.{Tables, idleTask, withTasks, task, putTask}
 use Rattle.rules.specs.Stages
 use Rattle.rules.specs.Rebalance.{Outcome}
-use Rattle.rules.specs.Calls.{Call, fresh, started, starts, steps, does, calls}
+use Rattle.rules.specs.Calls.{Call, fresh, started, starts, steps, does}
 use Rattle.rules.specs.Calls.Call.{start, step, begin, rebalance}
 use Rattle.laws.proofs.Tests.{picked}
 use Rattle.statements.specs.Sound.{Limited}
@@ -29,7 +28,6 @@ use Rattle.facts.proofs.Applying.{Applied, applied-by}
 use Rattle.facts.proofs.Ends.{decides-fine}
 use Rattle.facts.proofs.Fresh.{getD-all}
 use Rattle.facts.proofs.Reaching.{call-by, reached-kept}
-use Rattle.handles.specs.Owned.{NewOwn, Owned}
 use Rattle.handles.proofs.Owning.{OwnedBy, put-tasks}
 use Rattle.handles.proofs.Keys.{reached-owned}
 use Rattle.handles.proofs.Handing.{rebalance-tasks, begin-tasks}

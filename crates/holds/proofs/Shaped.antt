@@ -10,7 +10,7 @@ use Rattle.rules.specs.Tables.{Tables, task}
 use Rattle.rules.specs.Shape.{shape}
 use Rattle.rules.specs.Calls.{Call, does, calls}
 use Rattle.statements.specs.Sound.{Limited}
-use Rattle.facts.specs.Facts.{Kept, MarksHeld, holdAt}
+use Rattle.facts.specs.Facts.{MarksHeld, holdAt}
 use Rattle.facts.specs.Reached.{Reached}
 use Rattle.facts.proofs.Shapes.{has-shape}
 use Rattle.facts.proofs.Reaching.{reached-kept}

@@ -27,7 +27,7 @@ use Rattle.rules.specs.Tables.{Tables, emptyChunk, emptyEntry, chunkAt, chunk, 
 use Rattle.rules.specs.Walks.{locate, linked, listFrom}
 use Rattle.rules.specs.Stages
 use Rattle.rules.specs.Rebalance.{Outcome, unusedCount, unusedFrom, publishedOn, heldChunk, namingFrom, frozenOf, makes, at, begins, copies, swapsIn, releases, rebalanceDoes}
-use Rattle.rules.specs.Calls.{Call, fresh, started, starts, steps, does, calls}
+use Rattle.rules.specs.Calls.{Call, fresh, started, starts, steps, does}
 use Rattle.rules.specs.Calls.Call.{start, step, begin, rebalance}
 use Rattle.laws.proofs.Tests.{picked, by-test}
 use Rattle.views.proofs.Rows.{chunk-either, entry-put}

@@ -7,7 +7,7 @@ use mathlib.Core.List.{List}
 use mathlib.Core.Option.{Option, none, some}
 use lib.Dec.{eqb}
 use borrow.Author.Tests.{eqb-true}
-use Rattle.rules.specs.Words.{get, put, putIfAbsent, upsert, compute, remove, inserts}
+use Rattle.rules.specs.Words.{get, put, putIfAbsent, upsert, compute, inserts}
 use Rattle.rules.specs.Stages.{applied}
 use Rattle.rules.specs.Map.{Pair, pairKey, Ascends, lookup, insert, delete, Effect, onAbsent, onPresent, bySeen, sequential}
 use Rattle.rules.proofs.Tests.{picked, picked-by}

@@ -3,7 +3,6 @@ use Prim.Native.Nat.{ℕ, _≤_, _<_}
 use mathlib.Core.Path.{_≡_}
 use lib.ListN.{getD}
 use Rattle.rules.specs.declared.Sizes.{Sizes}
-use Rattle.rules.specs.declared.Task.{Task}
 use Rattle.rules.specs.Tables.{Tables, entry, task}
 use Rattle.simulation.specs.Named.{NamedIn, LiveNamed}
 

@@ -18,7 +18,7 @@ use Rattle.rules.specs.declared.Entry.{Entry}
 use Rattle.rules.specs.declared.ChunkNo.{ChunkNo}
 use Rattle.rules.specs.declared.EntryNo.{EntryNo}
 use Rattle.rules.specs.declared.HandleNo.{HandleNo}
-use Rattle.rules.specs.Words.{NONE, noChunk, unused, live, new, toCopy, toSwap}
+use Rattle.rules.specs.Words.{NONE, noChunk, unused, toCopy, toSwap}
 use Rattle.rules.specs.Tables.{Tables, emptyEntry, chunkAt, chunk, entryAt, withDirectory, withChunks, withEntries}
 use Rattle.rules.specs.Walks.{linked}
 use Rattle.rules.specs.Rebalance.{Outcome, unusedFrom, namingFrom, makes, at, copies}

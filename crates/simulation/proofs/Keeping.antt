@@ -18,7 +18,7 @@ use Rattle.rules.specs.Words.{_and_, _or_, noChunk, usesFunction, scan, idle, t
 use Rattle.rules.specs.Tables.{Tables, chunk, entryAt, entry, task, putTask, withDirectory}
 use Rattle.rules.specs.Stages
 use Rattle.rules.specs.Rebalance.{Outcome, unusedCount, publishedOn, heldChunk, begins, drains, swapsIn, releases, rebalanceDoes}
-use Rattle.rules.specs.Calls.{Call, starts, steps, does, calls}
+use Rattle.rules.specs.Calls.{Call, starts, steps, does}
 use Rattle.rules.specs.Calls.Call.{start, step, begin, rebalance}
 use Rattle.laws.proofs.Tests.{picked}
 use Rattle.views.proofs.Copies.{clears-is}

@@ -15,12 +15,12 @@ use Rattle.rules.specs.declared.ChunkNo.{ChunkNo}
 use Rattle.rules.specs.declared.EntryNo.{EntryNo}
 use Rattle.rules.specs.declared.HandleNo.{HandleNo}
 use Rattle.rules.specs.declared.Decision.{Decision}
-use Rattle.rules.specs.Words.{_and_, _or_, NONE, usesFunction, scan, live}
+use Rattle.rules.specs.Words.{_and_, _or_, NONE, usesFunction, scan}
 use Rattle.rules.specs.Tables.{Tables, idleTask, emptyEntry, chunkAt, chunk, entryAt, row, task, putTask}
 use Rattle.rules.specs.Walks.{lowestFree}
 use Rattle.rules.specs.Stages
 use Rattle.rules.specs.Rebalance.{Outcome, begins}
-use Rattle.rules.specs.Calls.{Call, fresh, started, starts, steps, does, calls}
+use Rattle.rules.specs.Calls.{Call, fresh, started, starts, steps, does}
 use Rattle.rules.specs.Calls.Call.{start, step, begin, rebalance}
 use Rattle.laws.proofs.Tests.{picked}
 use Rattle.statements.specs.Sound.{Limited}

@@ -14,8 +14,8 @@ use Rattle.rules.specs.declared.Sizes.{Sizes}
 use Rattle.rules.specs.declared.ChunkNo.{ChunkNo}
 use Rattle.rules.specs.declared.EntryNo.{EntryNo}
 use Rattle.rules.specs.declared.HandleNo.{HandleNo}
-use Rattle.rules.specs.Words.{_and_, live}
-use Rattle.rules.specs.Tables.{Tables, chunk, entry, value}
+use Rattle.rules.specs.Words.{_and_}
+use Rattle.rules.specs.Tables.{Tables, chunk, entry}
 use Rattle.rules.specs.Walks.{locate, find, linked, undeleted, Present}
 use Rattle.laws.proofs.Tests.{picked, both, and-left, and-right}
 use Rattle.views.specs.Views.{Links}

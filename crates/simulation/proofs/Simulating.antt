@@ -1,7 +1,7 @@
 -- The present keys and values are those of the sequential map, after every call.
 use Prim.Native.Nat.{ℕ, _*_}
 use mathlib.Core.Bool.{true}
-use mathlib.Core.Path.{_≡_, refl, sym, ap}
+use mathlib.Core.Path.{_≡_, refl, ap}
 use mathlib.Core.List.{List, []}
 use mathlib.Core.Logic.{_↔_}
 use mathlib.Core.Option.{some, Option·none-ne-some}

@@ -15,19 +15,21 @@ use Rattle.rules.specs.Calls.Call.{step}
 use Rattle.rules.specs.Map.{pairKey, Ascends, lookup, effect, sequential}
 use Rattle.statements.specs.Runs.{tablesAt, mapAt, reportAt, taskAt, DecidesAt, Working, Stepped}
 
+-- an operation ends by an answer, or by refusal 9
+abbrev pub EndsBy : Report → Type 0
+EndsBy r = (isAnswer r ≡ true) ⊎ (r ≡ report.Refused 9)
+
 module _ (z : Sizes) (run : ℕ → Call) where
   -- task n has no deciding step after call j, up to call i
   abbrev pub NeverDecides : ℕ → ℕ → ℕ → Type 0
   NeverDecides n j i = (x : ℕ) → j < x → x ≤ i → DecidesAt z run n x → ⊥
 
-  -- it has exactly one, changes the map there as the sequential map does, and answers what the sequential map answers there
+  -- it has one, and answers what the sequential map answers there; that it has no other, and what it changes there, `once` and `changes` say
   pub record ByChange (n op k a f j i : ℕ) (answer : Report) : Type 0 where
     pub at : ℕ
     pub since : j < at
     pub to : at ≤ i
     pub decides : DecidesAt z run n at
-    pub alone : (x : ℕ) → j < x → x ≤ i → DecidesAt z run n x → x ≡ at
-    pub changes : mapAt z run (suc at) ≡ sequential (mapAt z run at) op k a f .map
     pub answers : sequential (mapAt z run at) op k a f .answer ≡ answer
 
   -- it has none, and at some moment after its first step and not after its last the sequential map answers that and stays as it is
@@ -37,10 +39,6 @@ module _ (z : Sizes) (run : ℕ → Call) where
     pub after : Stepped z run n j moment
     pub to : moment ≤ i
     pub right : sequential (mapAt z run moment) op k a f ≡ effect answer (mapAt z run moment)
-
-  -- an operation ends by an answer, or by refusal 9
-  abbrev pub EndsBy : Report → Type 0
-  EndsBy r = (isAnswer r ≡ true) ⊎ (r ≡ report.Refused 9)
 
   pub record AnswersAsMap : Type 0 where
     -- the map's pairs are the present keys with their values, at every moment, and it stays ordered, no key twice

@@ -1,17 +1,15 @@
 -- A chunk's list and the chain of live chunks, as relations between a number and a list of rows.
-use Prim.Native.Nat.{ℕ, zero, suc, _+_, _≤_, _<_}
+use Prim.Native.Nat.{ℕ, _+_, _≤_, _<_}
 use mathlib.Core.Path.{_≡_}
-use mathlib.Core.Bool.{Bool, true, false}
-use mathlib.Core.List.{List, [], _∷_, _++_, List·Memᴰ}
-use lib.Dec.{eqb, ltb, leb}
+use mathlib.Core.List.{List, [], _∷_, _++_}
+use lib.Dec.{eqb, ltb}
 use Rattle.rules.specs.declared.Sizes.{Sizes}
 use Rattle.rules.specs.declared.Chunk.{Chunk}
 use Rattle.rules.specs.declared.Entry.{Entry}
 use Rattle.rules.specs.declared.ChunkNo.{ChunkNo}
 use Rattle.rules.specs.declared.EntryNo.{EntryNo}
-use Rattle.rules.specs.Words.{pick, _and_, NONE, live}
-use Rattle.rules.specs.Tables.{Tables, chunkAt, entryAt}
-use Rattle.rules.specs.Walks.{listFrom, locateFrom}
+use Rattle.rules.specs.Words.{pick, NONE, live}
+use Rattle.rules.specs.Tables.{chunkAt, entryAt}
 
 -- the list from e on is of these entries, used ones, keys ascending from k on
 module _ (z : Sizes) (es : List Entry) (c : ChunkNo) (used : ℕ) where
