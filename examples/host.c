@@ -85,8 +85,9 @@ static uint64_t rebalance(void)
 }
 
 /* ---- what happened */
-static const char *const operations[] = {"", "get", "put", "putIfAbsent", "upsert", "compute", "remove", "scan"};
-static unsigned long asked[8], value[8], absent[8], done[8], yes[8], no[8];
+static const char *const operations[] = {"", "get", "put", "putIfAbsent", "upsert", "compute", "remove", "scan", "scan down"};
+enum { KINDS = sizeof operations / sizeof *operations };
+static unsigned long asked[KINDS], value[KINDS], absent[KINDS], done[KINDS], yes[KINDS], no[KINDS];
 static unsigned long frozen, full, lost, pairs, refused[11];
 static unsigned long begun, waited, released;
 
@@ -117,8 +118,8 @@ static uint64_t turn(uint64_t n, int more)
         count(operation, report);
     } else if (more) {
         uint64_t key = chance(400);
-        operation = 1 + chance(7);
-        uint64_t argument = operation == KAMRDUCH_SCAN ? key + 25 : chance(1000);
+        operation = 1 + chance(KINDS - 1);
+        uint64_t argument = operation >= KAMRDUCH_SCAN ? key + 25 : chance(1000);
         uint64_t function = 1 + chance(3);
         asked[operation]++;
         count(operation, start(n, operation, key, argument, function));
@@ -140,6 +141,27 @@ static void balance(uint64_t key)
     }
     if (report == KAMRDUCH_REFUSED)
         refused[answer[0]]++;
+}
+
+/* a scan of all, alone: keys that strictly rise, or fall, and what they are worth together */
+static int list(uint64_t scan)
+{
+    unsigned long present = 0, steps = 0;
+    uint64_t last = 0, sum = 0, report = start(0, scan, 0, UINT64_MAX, 0);
+    while (report == KAMRDUCH_MOVED_ON || report == KAMRDUCH_PAIR) {
+        report = step(0);
+        steps++;
+        if (report == KAMRDUCH_PAIR) {
+            if (present != 0 && (scan == KAMRDUCH_SCAN ? answer[0] <= last : answer[0] >= last))
+                return 0;
+            last = answer[0];
+            sum += answer[1];
+            present++;
+        }
+    }
+    printf("%s: %lu keys present, the last %" PRIu64 ", ", operations[scan], present, last);
+    printf("values' sum %" PRIu64 ", %lu steps\n", sum, steps);
+    return report == KAMRDUCH_FINISHED_DONE;
 }
 
 int main(void)
@@ -166,7 +188,7 @@ int main(void)
         balance(0);
 
     printf("operations    asked  value absent   done   true  false\n");
-    for (int i = 1; i <= 7; i++)
+    for (int i = 1; i < KINDS; i++)
         printf("%-12s %6lu %6lu %6lu %6lu %6lu %6lu\n", operations[i], asked[i], value[i], absent[i], done[i], yes[i], no[i]);
     printf("restarts: %lu frozen, %lu full, %lu lost; pairs: %lu\n", frozen, full, lost, pairs);
     printf("rebalances: %lu begun, %lu released, %lu waits\n", begun, released, waited);
@@ -180,21 +202,8 @@ int main(void)
     }
     printf("refusals: %lu; chunks: %lu live, %lu slots used\n", refusals, live, used);
 
-    /* a scan of all, alone: strictly ascending keys, and what they are worth together */
-    unsigned long present = 0, steps = 0;
-    uint64_t last = 0, sum = 0, report = start(0, KAMRDUCH_SCAN, 0, UINT64_MAX, 0);
-    while (report == KAMRDUCH_MOVED_ON || report == KAMRDUCH_PAIR) {
-        report = step(0);
-        steps++;
-        if (report == KAMRDUCH_PAIR) {
-            if (present != 0 && answer[0] <= last)
-                return 1;
-            last = answer[0];
-            sum += answer[1];
-            present++;
-        }
-    }
-    printf("scan: %lu keys present, the last %" PRIu64 ", values' sum %" PRIu64 ", %lu steps\n", present, last, sum, steps);
+    if (!list(KAMRDUCH_SCAN) || !list(KAMRDUCH_SCAN_DOWN))
+        return 1;
     printf("calls: %lu, interrupts are %s\n", masks, masked ? "masked" : "unmasked");
-    return report == KAMRDUCH_FINISHED_DONE ? 0 : 1;
+    return 0;
 }

@@ -21,7 +21,7 @@ extern "C" {
 enum {
     KAMRDUCH_TASKS = 8,
     KAMRDUCH_CHUNKS = 32,
-    KAMRDUCH_ENTRIES = 32, /* in each chunk */
+    KAMRDUCH_ENTRIES = 32, /* in each chunk, and as many words in a task's stack */
     KAMRDUCH_HANDLES = 560,
 
     KAMRDUCH_TASK_WORDS = 11, /* of a row */
@@ -29,7 +29,8 @@ enum {
     KAMRDUCH_ENTRY_WORDS = 3,
 
     KAMRDUCH_DIRECTORY_LENGTH = 5,
-    KAMRDUCH_TASKS_LENGTH = KAMRDUCH_TASKS * KAMRDUCH_TASK_WORDS,
+    KAMRDUCH_STACKS = KAMRDUCH_TASKS * KAMRDUCH_TASK_WORDS, /* where the stacks begin, after every task's row */
+    KAMRDUCH_TASKS_LENGTH = KAMRDUCH_STACKS + KAMRDUCH_TASKS * KAMRDUCH_ENTRIES,
     KAMRDUCH_CHUNKS_LENGTH = KAMRDUCH_CHUNKS * KAMRDUCH_CHUNK_WORDS,
     KAMRDUCH_ENTRIES_LENGTH = KAMRDUCH_CHUNKS * KAMRDUCH_ENTRIES * KAMRDUCH_ENTRY_WORDS,
     KAMRDUCH_VALUES_LENGTH = KAMRDUCH_HANDLES,
@@ -53,7 +54,7 @@ enum kamrduch_task_word {
     KAMRDUCH_TASK_STAGE = 0, /* 0 is idle */
     KAMRDUCH_TASK_OPERATION = 1,
     KAMRDUCH_TASK_FUNCTION = 2,
-    KAMRDUCH_TASK_KEY = 3,      /* a scan's cursor */
+    KAMRDUCH_TASK_KEY = 3,      /* an upward scan's cursor; a downward one's lower end */
     KAMRDUCH_TASK_ARGUMENT = 4, /* a scan's upper end */
     KAMRDUCH_TASK_CHUNK = 5,
     KAMRDUCH_TASK_ENTRY = 6,
@@ -62,6 +63,11 @@ enum kamrduch_task_word {
     KAMRDUCH_TASK_PUBLISHED = 9,
     KAMRDUCH_TASK_SWAPPED = 10
 };
+
+/* A task's stack: after the eight rows the tasks' table has eight stacks of 32 words, task n's from word
+ * KAMRDUCH_STACKS + n * KAMRDUCH_ENTRIES on. It has the entries of the held chunk that a downward scan has yet to look at, the
+ * bottom first, keys rising to the top; the first word that is KAMRDUCH_NONE ends it. At any stage but 23 every word is
+ * KAMRDUCH_NONE. */
 
 enum kamrduch_chunk_word {
     KAMRDUCH_CHUNK_STATUS = 0,
@@ -94,7 +100,8 @@ enum kamrduch_operation {
     KAMRDUCH_UPSERT = 4,        /* done; stores the argument where the key is absent, else applies the function with it */
     KAMRDUCH_COMPUTE = 5,       /* true or false */
     KAMRDUCH_REMOVE = 6,        /* true or false */
-    KAMRDUCH_SCAN = 7           /* pairs from the key up to the argument, left out; then done */
+    KAMRDUCH_SCAN = 7,          /* pairs from the key up to the argument, left out; then done */
+    KAMRDUCH_SCAN_DOWN = 8      /* the same range, from the largest key down */
 };
 
 /* of upsert and compute; other operations take any number */
@@ -122,8 +129,8 @@ enum kamrduch_refusal {
     KAMRDUCH_NO_TASK = 1,           /* start, step: task number 8 or more */
     KAMRDUCH_TASK_AT_WORK = 2,      /* start */
     KAMRDUCH_TASK_IDLE = 3,         /* step */
-    KAMRDUCH_SCAN_BACKWARDS = 4,    /* start: a scan's lower end above its upper */
-    KAMRDUCH_NO_OPERATION = 5,      /* start: operation not 1 to 7, or function not 1 to 3 where one is used */
+    KAMRDUCH_SCAN_BACKWARDS = 4,    /* start: a scan's lower end above its upper, whichever way it goes */
+    KAMRDUCH_NO_OPERATION = 5,      /* start: operation not 1 to 8, or function not 1 to 3 where one is used */
     KAMRDUCH_REBALANCE_AT_WORK = 6, /* begin */
     KAMRDUCH_NO_CHUNKS = 7,         /* begin: fewer than two unused chunks */
     KAMRDUCH_REBALANCE_IDLE = 8,    /* rebalance */
@@ -147,7 +154,7 @@ uint64_t kamrduch_fresh(uint64_t *directory, size_t directory_length, uint64_t *
                         uint64_t *answer, size_t answer_length);
 
 /* Task n starts an operation: its row holds the operation, the key, the argument (0 for get and remove) and the function
- * (0 where none is used), at stage 22 for a scan and 1 for all others. No other word changes.
+ * (0 where none is used), at stage 22 for a scan, 23 for a scan down and 1 for all others. No other word changes.
  * Returns moved on; refused by 10, 1, 2, 5, 4, the first that is met. */
 uint64_t kamrduch_start(const uint64_t *directory, size_t directory_length, uint64_t *tasks, size_t tasks_length,
                         const uint64_t *chunks, size_t chunks_length, const uint64_t *entries, size_t entries_length,
@@ -155,7 +162,8 @@ uint64_t kamrduch_start(const uint64_t *directory, size_t directory_length, uint
                         uint64_t n, uint64_t operation, uint64_t key, uint64_t argument, uint64_t function,
                         uint64_t *answer, size_t answer_length);
 
-/* Task n does one stage. Its own row moves on, or is cleared where it finishes. Elsewhere at most one thing changes:
+/* Task n does one stage. Its own row moves on, or is cleared where it finishes, and with it its stack: stage 23 fills an empty one
+ * from the next chunk, or takes one entry off. Elsewhere at most one thing changes:
  * stage 5 a value or a mark; 6 a slot of a chunk; 7 a link in a chunk's list; 8 a handle's value and mark, to 0; 9 a value;
  * 11, 14 and 20 the handle that an entry names.
  * Returns moved on, restarted, a pair, or finished with its answer; refused by 10, 1, 3, 9, the first that is met. */

@@ -81,6 +81,24 @@ static void scans(void)
     expect(report == KAMRDUCH_FINISHED_DONE, "the scan's end");
 }
 
+/* the same keys from the top down: a fill, eight pairs, a fill, eight pairs, the end */
+static void scans_down(void)
+{
+    uint64_t report = does(KAMRDUCH_SCAN_DOWN, 0, UINT64_MAX, 0);
+    const uint64_t *stack = tasks + KAMRDUCH_STACKS;
+    expect(stack[0] == 0 && stack[6] == 6 && stack[7] == KAMRDUCH_NONE, "the stack");
+    for (uint64_t key = 17; key >= 1; key--)
+        if (key != 5) {
+            while (report == KAMRDUCH_MOVED_ON)
+                report = kamrduch_step(TABLES, 0, ANSWER);
+            expect(report == KAMRDUCH_PAIR && answer[0] == key && answer[1] == key, "a pair");
+            report = kamrduch_step(TABLES, 0, ANSWER);
+        }
+    expect(report == KAMRDUCH_FINISHED_DONE && stack[0] == KAMRDUCH_NONE, "the downward scan's end");
+    expect(does(KAMRDUCH_SCAN_DOWN, 6, 5, 0) == KAMRDUCH_REFUSED && answer[0] == KAMRDUCH_SCAN_BACKWARDS, "refusal 4");
+    expect(does(9, 5, 6, 0) == KAMRDUCH_REFUSED && answer[0] == KAMRDUCH_NO_OPERATION, "refusal 5");
+}
+
 int main(void)
 {
     directory = words(KAMRDUCH_DIRECTORY_LENGTH);
@@ -93,9 +111,12 @@ int main(void)
     expect(kamrduch_fresh(TABLES, ANSWER) == KAMRDUCH_FINISHED_DONE, "fresh");
     for (int h = 0; h < KAMRDUCH_HANDLES; h++)
         expect(values[h] == 0 && marks[h] == 0, "a value or a mark");
+    for (int i = KAMRDUCH_STACKS; i < KAMRDUCH_TASKS_LENGTH; i++)
+        expect(tasks[i] == KAMRDUCH_NONE, "a stack");
     works();
     splits();
     scans();
+    scans_down();
     uint64_t *made[] = {directory, tasks, chunks, entries, values, marks, answer};
     for (int i = 0; i < 7; i++)
         free(made[i]);

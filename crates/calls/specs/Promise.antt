@@ -1,5 +1,5 @@
 -- What each call promises of its report and of every word of the lent tables (document 01, "How tightly each call is promised").
-use Prim.Native.Nat.{ℕ, _*_}
+use Prim.Native.Nat.{ℕ, _+_, _*_}
 use mathlib.Core.Path.{_≡_}
 use mathlib.Core.Bool.{Bool, true, false}
 use mathlib.Core.List.{List}
@@ -44,7 +44,7 @@ tablesOf z w = tables z (w .directory) (w .tasks) (w .chunks) (w .entries) (w .v
 abbrev pub lent : Sizes → Lending → Bool
 lent z w =
     eqb (length (w .directory)) 5
-    and eqb (length (w .tasks)) (z .tasks * 11)
+    and eqb (length (w .tasks)) (z .tasks * 11 + z .tasks * z .entries)
     and eqb (length (w .chunks)) (z .chunks * 6)
     and eqb (length (w .entries)) (z .chunks * z .entries * 3)
     and eqb (length (w .values)) (z .handles)

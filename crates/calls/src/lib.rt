@@ -1,6 +1,4 @@
 // The calls over lent tables of any sizes: the slices' lengths are tested first, then the shape, then what the call itself refuses.
-mod stepping;
-
 use rules::Report;
 use rules::Sizes;
 ghost use mathlib.Core.Path.{_≡_};
@@ -26,7 +24,7 @@ pub fn is_lent(
     if directory.len() != rows::DIRECTORY_WORDS {
         return false;
     }
-    if tasks.len() != z.tasks * rows::TASK_WORDS {
+    if tasks.len() != z.tasks * rows::TASK_WORDS + z.tasks * z.entries {
         return false;
     }
     if chunks.len() != z.chunks * rows::CHUNK_WORDS {

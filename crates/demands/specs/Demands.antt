@@ -1,14 +1,15 @@
 -- The three demands, for a reader who knows document 01. Beyond the rules (crates/rules/specs) these files, and no other, are to be believed; the rest serves proofs:
---   this file 66   crates/statements/specs/Runs.antt 65, Answers.antt 95, Sound.antt 72   crates/calls/specs/Promise.antt 65   crates/host/specs/Linked.antt 22 (lines)
+--   this file 67   crates/statements/specs/Runs.antt 65, Answers.antt 108, Sound.antt 72   crates/calls/specs/Promise.antt 65   crates/host/specs/Linked.antt 22 (lines)
 -- What the code ensures is the contract of each public call (crates/directory, crates/host), with no `requires`: Promise, Makes and Answered below, at the limits.
 use Prim.Native.Nat.{ℕ, suc}
 use mathlib.Core.Path.{_≡_}
+use mathlib.Core.Bool.{true}
 use mathlib.Core.List.{List, map, List·Memᴰ}
 use lib.ListN.{length}
 use Rattle.rules.specs.declared.Sizes.{Sizes}
 use Rattle.rules.specs.declared.Report.{Report}
 use Rattle.rules.specs.declared.Report.the-variants as report
-use Rattle.rules.specs.Words.{limits, scan}
+use Rattle.rules.specs.Words.{limits, isScan}
 use Rattle.rules.specs.Told.{told}
 use Rattle.rules.specs.Tables.{Tables}
 use Rattle.rules.specs.Rebalance.{Outcome, gives}
@@ -47,7 +48,7 @@ pub record Demands (z : Sizes) : Type 0 where
   pub checks : Checks z
   -- 2: over any run an operation answers as the sequential map does, and a scan is judged pair by pair
   pub answers : (run : ℕ → Call) → AnswersAsMap z run
-  pub scans : (run : ℕ → Call) (n k a f j i : ℕ) → Working z run n scan k a f j i → run i ≡ step n → ScansAt z run n k a j i
+  pub scans : (run : ℕ → Call) (n op k a f j i : ℕ) → isScan op ≡ true → Working z run n op k a f j i → run i ≡ step n → ScansAt z run n op k a j i
   -- 3: at every moment of any run
   pub sound : (run : ℕ → Call) (i : ℕ) → SoundAt z run i (tablesAt z run i)
   -- the code runs these runs: at every moment it has their tables, and gives their reports
@@ -60,7 +61,7 @@ pub record Kamrduch : Type 0 where
   pub at-limits : Demands limits
   -- no insertion is refused a handle while fewer than 512 keys are present
   pub keys : promised limits ≡ 512
-  -- something finishes: the marked cases, M1 to M12 and three more, every report and what the tables then show
+  -- something finishes: the marked cases, M1 to M12, three more and those of scans down, every report and what the tables then show
   pub marked : map (runs calls (fresh limits)) markedCases ≡ map (map says) markedCases
   -- tables that break one clause of the shape, each clause by one of the list: every call on them is refused by 10
   pub broken : (s : Tables) → List·Memᴰ s brokenTables → (c : Call) → calls limits s c ≡ gives s (report.Refused 10)

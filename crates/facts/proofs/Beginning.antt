@@ -10,6 +10,7 @@ use lib.ListN.{length, set}
 use borrow.Author.Tests.{ltb-false, eqb-true}
 use Rattle.rules.specs.declared.Sizes.{Sizes}
 use Rattle.rules.specs.declared.Directory.{Directory}
+use Rattle.rules.specs.declared.Task.{Task}
 use Rattle.rules.specs.declared.Chunk.{Chunk}
 use Rattle.rules.specs.declared.ChunkNo.{ChunkNo}
 use Rattle.rules.specs.Words.{NONE, chunkNo, noChunk, unused, live, new, idle, toDrain, toCopy}
@@ -20,9 +21,10 @@ use Rattle.laws.proofs.Tests.{picked}
 use Rattle.views.specs.Views.{Links}
 use Rattle.views.proofs.Rows.{chunk-put}
 use Rattle.statements.specs.Sound.{Limited}
-use Rattle.facts.specs.Facts.{RowRight, ListRight, listed, KeyInRange, Roles, Rebalancing, Tabled, Same, Kept}
+use Rattle.facts.specs.Facts.{RowRight, ListRight, listed, KeyInRange, Roles, Rebalancing, Tabled, Same, Tasked, Leaves, Kept}
 use Rattle.facts.proofs.Sames.{same-put, range-kept, chained-kept, quiet-keys, tasked-kept, list-quiet}
 use Rattle.facts.proofs.Going.{located}
+use Rattle.facts.proofs.Stacking.{same-leaves, stacked-kept}
 
 module _ (z : Sizes) (lim : Limited z) (s : Tables) (kept : Kept z s) where
   h : Tabled z (s .directory) (s .chunks) (s .entries)
@@ -136,7 +138,17 @@ module _ (z : Sizes) (lim : Limited z) (s : Tables) (kept : Kept z s) where
         late : 3 ≤ 1 → ⊥
         late b = omega arith
 
-    begun : Kept z (record { directory = record { first = s .directory .first; stage = toDrain; old = locate z s k; new = noChunk; second = noChunk }; tasks = s .tasks; chunks = set (s .chunks) (locate z s k .0) (frozenOf (chunk s (locate z s k))); entries = s .entries; values = s .values; marks = s .marks })
+    task-right : (t : Task) → Tasked z (s .chunks) (s .entries) t → Tasked z cs (s .entries) t
+    task-right t r = tasked-kept z (s .chunks) cs same (s .entries) (s .entries) t r (λ f b. rw (used-is f) (le-refl _)) (λ f e b u. refl) (λ f e b m. rw (quiet f b .0) m)
+
+    abbrev after : Tables
+    after = record { directory = record { first = s .directory .first; stage = toDrain; old = locate z s k; new = noChunk; second = noChunk }; tasks = s .tasks; chunks = set (s .chunks) (locate z s k .0) (frozenOf (chunk s (locate z s k))); entries = s .entries; values = s .values; marks = s .marks; stacks = s .stacks }
+
+    begun-leaves : (f : ChunkNo) → Leaves z s after f
+    unfolding c cs
+    begun-leaves f = record { tasked = λ t _ r. task-right t r; min = λ _. same .min f }
+
+    begun : Kept z after
     unfolding c cs d
     begun =
         record {
@@ -145,7 +157,9 @@ module _ (z : Sizes) (lim : Limited z) (s : Tables) (kept : Kept z s) where
           marks-sized = kept .marks-sized;
           marks = kept .marks;
           tables = record { chunks-sized = same .sized ∙ h .chunks-sized; entries-sized = h .entries-sized; lists = list-right; chained = chained-kept z (s .chunks) cs same (s .directory .first) (h .chained); key-in-range = in-range; rebalancing = rebalancing; made = λ e. absurd (three e) };
-          tasks = λ n. tasked-kept z (s .chunks) cs same (s .entries) (s .entries) (task s n) (kept .tasks n) (λ f b. rw (used-is f) (le-refl _)) (λ f e b u. refl) (λ f e b m. rw (quiet f b .0) m);
+          tasks = λ n. task-right (task s n) (kept .tasks n);
+          stacks-sized = kept .stacks-sized;
+          stacks = λ n b. stacked-kept z lim s kept after n (begun-leaves (task s n .chunk)) b;
         }
       where
         three : _≡_ {A = ℕ} 1 3 → ⊥
@@ -158,6 +172,17 @@ module _ (z : Sizes) (lim : Limited z) (s : Tables) (kept : Kept z s) where
     where
       K : Outcome → Type 0
       K o = Kept z (o .tables)
+
+  pub begin-leaves : (k : ℕ) (f : ChunkNo) → Leaves z s (begins z s k .tables) f
+  begin-leaves k f =
+      picked L (eqb (s .directory .stage) idle)
+      (λ e. picked L (ltb (unusedCount (s .chunks)) 2) (λ _. same-leaves z s f) (λ r. begun-leaves k (eqb-true _ _ e) (ltb-false _ _ r) f)) (λ _. same-leaves z s f)
+    where
+      L : Outcome → Type 0
+      L o = Leaves z s (o .tables) f
+
+  pub drain-leaves : (f : ChunkNo) → Leaves z s (drains z s .tables) f
+  drain-leaves f = picked (λ (o : Outcome). Leaves z s (o .tables) f) (publishedOn (s .tasks) (s .directory .old)) (λ _. same-leaves z s f) (λ _. record { tasked = λ t _ r. r; min = λ _. refl })
 
   -- ---- drain
   module _ (draining : s .directory .stage ≡ toDrain) where
@@ -182,7 +207,7 @@ module _ (z : Sizes) (lim : Limited z) (s : Tables) (kept : Kept z s) where
         none : NONE ≡ f .0 → ⊥
         none e = omega (arith, lim .chunks)
 
-    drained : Kept z (record { directory = record { first = s .directory .first; stage = toCopy; old = s .directory .old; new = noChunk; second = noChunk }; tasks = s .tasks; chunks = s .chunks; entries = s .entries; values = s .values; marks = s .marks })
+    drained : Kept z (record { directory = record { first = s .directory .first; stage = toCopy; old = s .directory .old; new = noChunk; second = noChunk }; tasks = s .tasks; chunks = s .chunks; entries = s .entries; values = s .values; marks = s .marks; stacks = s .stacks })
     unfolding d′
     drained =
         record {
@@ -201,6 +226,8 @@ module _ (z : Sizes) (lim : Limited z) (s : Tables) (kept : Kept z s) where
                 made = λ e. absurd (three e);
               };
           tasks = kept .tasks;
+          stacks-sized = kept .stacks-sized;
+          stacks = kept .stacks;
         }
       where
         two : _≡_ {A = ℕ} 2 0 → ⊥

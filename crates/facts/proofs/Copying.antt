@@ -14,6 +14,7 @@ use Rattle.rules.specs.Map.{Ascends}
 use Rattle.views.specs.Copies.{entryKey, filled}
 use Rattle.rules.specs.declared.Sizes.{Sizes}
 use Rattle.rules.specs.declared.Directory.{Directory}
+use Rattle.rules.specs.declared.Task.{Task}
 use Rattle.rules.specs.declared.Chunk.{Chunk}
 use Rattle.rules.specs.declared.Entry.{Entry}
 use Rattle.rules.specs.declared.ChunkNo.{ChunkNo}
@@ -26,10 +27,12 @@ use Rattle.laws.proofs.Tests.{picked}
 use Rattle.views.specs.Views.{Links}
 use Rattle.views.proofs.Copies.{fill-is}
 use Rattle.views.proofs.Entries.{links-length}
-use Rattle.views.proofs.Naming.{naming-rising, naming-length, naming-every, rising-above, rising-take, rising-drop, rising-from, rising-grows, take-below, getD-in, every-take, every-drop, unused-first, unused-next}
+use Rattle.views.proofs.Naming.{naming-rising, naming-length, naming-every, rising-take, rising-drop, rising-from, rising-grows, take-below, getD-in, every-take, every-drop, unused-first, unused-next}
+use Rattle.views.proofs.Stacks.{ascends-above}
 use Rattle.statements.specs.Sound.{Limited}
-use Rattle.facts.specs.Facts.{listed, Roles, Made, Rebalancing, Tabled, Tasked, Kept}
+use Rattle.facts.specs.Facts.{listed, Roles, Made, Rebalancing, Tabled, Tasked, Leaves, Kept}
 use Rattle.facts.proofs.Numbers.{number-in, number-none}
+use Rattle.facts.proofs.Stacking.{stacked-kept}
 use Rattle.facts.proofs.Putting.{Based, based-of}
 use Rattle.facts.proofs.Making.{newRow, made-other, made-here, made-range, made-keys, made-list, made-task, based-made}
 
@@ -148,9 +151,18 @@ module _ (z : Sizes) (lim : Limited z) (s : Tables) (kept : Kept z s) (copying :
         late : 3 ≤ 2 → ⊥
         late le = omega arith
 
+  -- what a copy leaves of every task, and of a chunk in use
+  abbrev Copied : List Chunk → List Entry → Type 0
+  Copied cs′ es′ = ((t : Task) → Tasked z (s .chunks) (s .entries) t → Tasked z cs′ es′ t) × ((f : ChunkNo) → f ≢ a → f ≢ b → chunkAt cs′ f ≡ chunk s f)
+
   -- the tables with the new chunks, by their chunks and entries
-  copied : (c : ChunkNo) (cs′ : List Chunk) (es′ : List Entry) → Based z (s .directory .first) cs′ es′ → Rebalancing z (after c) cs′ → Made z (after c) cs′ es′ → ((n : ℕ) → Tasked z cs′ es′ (task s n)) →
-      Kept z (withChunks (withEntries (withDirectory s (after c)) es′) cs′)
+  abbrev with : ChunkNo → List Chunk → List Entry → Tables
+  with c cs′ es′ = withChunks (withEntries (withDirectory s (after c)) es′) cs′
+
+  copied-leaves : (c : ChunkNo) (cs′ : List Chunk) (es′ : List Entry) → Copied cs′ es′ → (f : ChunkNo) → Leaves z s (with c cs′ es′) f
+  copied-leaves c cs′ es′ t f = record { tasked = λ x _ r. t .0 x r; min = λ u. ap (λ (y : Chunk). y .min) (t .1 f (λ p. u (rw p (a-free .1))) (λ p. u (rw p (b-free .1)))) }
+
+  copied : (c : ChunkNo) (cs′ : List Chunk) (es′ : List Entry) → Based z (s .directory .first) cs′ es′ → Rebalancing z (after c) cs′ → Made z (after c) cs′ es′ → Copied cs′ es′ → Kept z (with c cs′ es′)
   copied c cs′ es′ g r m t =
       record {
         tasks-sized = kept .tasks-sized;
@@ -158,12 +170,17 @@ module _ (z : Sizes) (lim : Limited z) (s : Tables) (kept : Kept z s) (copying :
         marks-sized = kept .marks-sized;
         marks = kept .marks;
         tables = record { chunks-sized = g .chunks-sized; entries-sized = g .entries-sized; lists = g .lists; chained = g .chained; key-in-range = g .key-in-range; rebalancing = r; made = λ _. m };
-        tasks = t;
+        tasks = λ n. t .0 (task s n) (kept .tasks n);
+        stacks-sized = kept .stacks-sized;
+        stacks = λ n b. stacked-kept z lim s kept (with c cs′ es′) n (copied-leaves c cs′ es′ t (task s n .chunk)) b;
       }
 
   -- ---- to one chunk
+  one-copied : Copied (set (s .chunks) (a .0) (newRow (chunk s old .min) l)) (filled z a 0 l (s .entries))
+  one-copied = (made-task z lim (s .directory .first) (s .chunks) (s .entries) base a (chunk s old .min) l (a-free .0) (a-free .1) l-short l-rising l-handles, λ f ne _. made-other z lim (s .directory .first) (s .chunks) (s .entries) base a (chunk s old .min) l (a-free .0) (a-free .1) l-short l-rising l-handles f ne)
+
   one : Kept z (makes z (withDirectory s (after noChunk)) a (chunk s old .min) l)
-  one = rw (fill-is z a (withDirectory s (after noChunk)) 0 l) (copied noChunk cs₁ es₁ base₁ (rebalancing noChunk cs₁ (number-none (z .chunks)) (λ e. never (a-free .0) e) (λ e. never old-in e) at-old (rw at-new (refl, refl)) (λ i. absurd (out i)) (λ f ne _. made-other z lim (s .directory .first) (s .chunks) (s .entries) base a (chunk s old .min) l (a-free .0) (a-free .1) l-short l-rising l-handles f ne)) made (λ n. made-task z lim (s .directory .first) (s .chunks) (s .entries) base a (chunk s old .min) l (a-free .0) (a-free .1) l-short l-rising l-handles (task s n) (kept .tasks n)))
+  one = rw (fill-is z a (withDirectory s (after noChunk)) 0 l) (copied noChunk cs₁ es₁ base₁ (rebalancing noChunk cs₁ (number-none (z .chunks)) (λ e. never (a-free .0) e) (λ e. never old-in e) at-old (rw at-new (refl, refl)) (λ i. absurd (out i)) (λ f ne _. made-other z lim (s .directory .first) (s .chunks) (s .entries) base a (chunk s old .min) l (a-free .0) (a-free .1) l-short l-rising l-handles f ne)) made one-copied)
     where
       cs₁ : List Chunk
       cs₁ = set (s .chunks) (a .0) (newRow (chunk s old .min) l)
@@ -296,17 +313,27 @@ module _ (z : Sizes) (lim : Limited z) (s : Tables) (kept : Kept z s) (copying :
           first-keys = first-list (InRange z cs₂ old) (every-take (λ x. InRange z cs₂ old (x .key)) half l (λ x m. range₂ (x .key) (l-range x m)));
           first-below = λ _. rw at-second (first-list (λ k. k < least) (take-below 0 half l inner l-rising));
           second-keys = λ _. second-list (InRange z cs₂ old) (every-drop (λ x. InRange z cs₂ old (x .key)) half l (λ x m. range₂ (x .key) (l-range x m)));
-          second-from = λ _. second-list (λ k. chunkAt cs₂ b .min ≤ k) (λ x m. rw at-second (rising-above least l₂ (rising-drop 0 half l inner l-rising) x m));
+          second-from = λ _. second-list (λ k. chunkAt cs₂ b .min ≤ k) (λ x m. rw at-second (ascends-above entryKey least l₂ (rising-drop 0 half l inner l-rising) x m));
         }
       where
         past : chunk s old .min + half ≤ least → chunk s old .min < least
         past le = omega (arith, lim .two)
 
+    two-copied : Copied cs₂ es₂
+    two-copied = (λ t r. made-task z lim (s .directory .first) cs₁ es₁ base₁ b least l₂ (b-free .0) b-unused l₂-short l₂-rising h₂ t (made-task z lim (s .directory .first) (s .chunks) (s .entries) base a (chunk s old .min) l₁ (a-free .0) (a-free .1) l₁-short r₁ h₁ t r), λ f n1 n2. same₂ f n2 ∙ same₁ f n1)
+
+    two-leaves : (f : ChunkNo) → Leaves z s (makes z (makes z (withDirectory s (after b)) a (chunk s old .min) l₁) b least l₂) f
+    two-leaves f = rw (fill-is z a (withDirectory s (after b)) 0 l₁, fill-is z b (with b cs₁ es₁) 0 l₂) (copied-leaves b cs₂ es₂ two-copied f)
+
     two : Kept z (makes z (makes z (withDirectory s (after b)) a (chunk s old .min) l₁) b least l₂)
     two =
-        rw (fill-is z a (withDirectory s (after b)) 0 l₁, fill-is z b (withChunks (withEntries (withDirectory s (after b)) es₁) cs₁) 0 l₂)
-        (copied b cs₂ es₂ base₂ (rebalancing b cs₂ (number-in _ _ (b-free .0)) (λ e. b-apart (sym (ap chunkNo e))) (λ e. not-unused b (b-free .1) (ap chunkNo e)) at-old (rw at-first (refl, refl)) (λ _. rw at-second (refl, refl)) (λ f n1 n2. same₂ f n2 ∙ same₁ f n1)) two-made
-        (λ n. made-task z lim (s .directory .first) cs₁ es₁ base₁ b least l₂ (b-free .0) b-unused l₂-short l₂-rising h₂ (task s n) (made-task z lim (s .directory .first) (s .chunks) (s .entries) base a (chunk s old .min) l₁ (a-free .0) (a-free .1) l₁-short r₁ h₁ (task s n) (kept .tasks n))))
+        rw (fill-is z a (withDirectory s (after b)) 0 l₁, fill-is z b (with b cs₁ es₁) 0 l₂)
+        (copied b cs₂ es₂ base₂ (rebalancing b cs₂ (number-in _ _ (b-free .0)) (λ e. b-apart (sym (ap chunkNo e))) (λ e. not-unused b (b-free .1) (ap chunkNo e)) at-old (rw at-first (refl, refl)) (λ _. rw at-second (refl, refl)) (two-copied .1)) two-made two-copied)
 
   pub copy-kept : Kept z (copies z s .tables)
   copy-kept = picked (λ (o : Outcome). Kept z (o .tables)) (leb (length l) (z .entries / 2)) (λ _. one) (λ t. two (leb-false _ _ t))
+
+  pub copy-leaves : (f : ChunkNo) → Leaves z s (copies z s .tables) f
+  copy-leaves f =
+      picked (λ (o : Outcome). Leaves z s (o .tables) f) (leb (length l) (z .entries / 2))
+      (λ _. rw (fill-is z a (withDirectory s (after noChunk)) 0 l) (copied-leaves noChunk _ _ one-copied f)) (λ t. two-leaves (leb-false _ _ t) f)

@@ -11,12 +11,13 @@ use borrow.Author.Tests.{ltb-true, eqb-true}
 use Rattle.rules.specs.declared.Sizes.{Sizes}
 use Rattle.rules.specs.declared.Task.{Task}
 use Rattle.rules.specs.declared.Entry.{Entry}
+use Rattle.rules.specs.declared.ChunkNo.{ChunkNo}
 use Rattle.rules.specs.declared.HandleNo.{HandleNo}
 use Rattle.rules.specs.declared.Report.{Report}
 use Rattle.rules.specs.declared.Write.the-variants as write
-use Rattle.rules.specs.Words.{pick, _and_, NONE, noHandle}
+use Rattle.rules.specs.Words.{pick, _and_, NONE, noEntry, noHandle, live, scanDown}
 use Rattle.rules.specs.Tables.{Tables, row, chunk, entry}
-use Rattle.rules.specs.Walks.{locate, find, firstPresent}
+use Rattle.rules.specs.Walks.{locate, find, firstPresent, InRange}
 use Rattle.rules.specs.Stages
 use Rattle.rules.specs.Shape.{numbers, hold, flagAs, fitsOperation}
 use Rattle.laws.proofs.EachStage.{each-stage}
@@ -24,7 +25,7 @@ use Rattle.laws.proofs.Tests.{picked}
 use Rattle.statements.specs.Sound.{Limited}
 use Rattle.facts.specs.Facts.{Tabled, Holds, holdAt, EntryHeld, Tasked}
 use Rattle.facts.proofs.Numbers.{number-in, number-none}
-use Rattle.facts.proofs.Operations.{throughout, implies}
+use Rattle.facts.proofs.Operations.{throughout, implies, fits-test}
 use Rattle.facts.proofs.Going
 use Rattle.facts.proofs.Going.{Fine}
 use Rattle.facts.proofs.Stages as early
@@ -37,7 +38,7 @@ module _ (z : Sizes) (lim : Limited z) (s : Tables) (h : Tabled z (s .directory)
       Holds z (Stages.goesTo t m (t .chunk) (t .entry) (t .old) (t .new) 1 w) (holdAt m) →
       Fine z s (Stages.moves (Stages.goesTo t m (t .chunk) (t .entry) (t .old) (t .new) 1 w) (write.Name (t .chunk) (t .entry) x))
   naming n m w x e ne mz b be num holds =
-      record { allowed = (b, held .used, num); task = λ ts. record { idle = λ q. absurd (mz q); holds = λ _. holds; chunk-of-key = after .chunk-of-key; entry = λ i. again (after .entry i) } }
+      record { allowed = (b, held .used, num); task = λ ts ss. record { idle = λ q. absurd (mz q); holds = λ _. holds; chunk-of-key = after .chunk-of-key; entry = λ i. again (after .entry i) } }
     where
       held : EntryHeld z (s .chunks) (s .entries) (t .chunk) (t .entry) (t .key) (t .stage)
       held = r .entry be
@@ -52,7 +53,7 @@ module _ (z : Sizes) (lim : Limited z) (s : Tables) (h : Tabled z (s .directory)
       again y = record { inside = y .inside; used = y .used; keyed = y .keyed; linked = λ _. y .linked (λ q. ne (sym e ∙ q)) }
 
   -- the swap, done or failed, by what the two stages hold
-  swapped : (n o k f w : ℕ) (x : HandleNo) → t .stage ≡ n → n ≢ 0 → n ≢ 7 → throughout 8 (λ op. implies (fitsOperation op n and true) (fitsOperation op (n + 1))) ≡ true → holdAt n ≡ hold 1 1 o k 1 0 → holdAt (n + 1) ≡ hold 1 1 o k 1 f → flagAs f 0 ≡ true → flagAs f w ≡ true → numbers (z .handles) (x .0) ≡ true →
+  swapped : (n o k f w : ℕ) (x : HandleNo) → t .stage ≡ n → n ≢ 0 → n ≢ 7 → throughout 9 (λ op. implies (fitsOperation op n and true) (fitsOperation op (n + 1))) ≡ true → holdAt n ≡ hold 1 1 o k 1 0 → holdAt (n + 1) ≡ hold 1 1 o k 1 f → flagAs f 0 ≡ true → flagAs f w ≡ true → numbers (z .handles) (x .0) ≡ true →
       Fine z s (pick (Stages.stillNames z s t) (Stages.moves (Stages.goesTo t (n + 1) (t .chunk) (t .entry) (t .old) (t .new) 1 w) (write.Name (t .chunk) (t .entry) x)) (Stages.moves (Stages.keeps t (n + 1)) write.Nothing))
   swapped n o k f w x e ne n7 fits was is f0 fw num =
       picked (Fine z s) (Stages.stillNames z s t)
@@ -73,7 +74,7 @@ module _ (z : Sizes) (lim : Limited z) (s : Tables) (h : Tabled z (s .directory)
   clears-fine (inr e) = rw e (swapped 20 3 0 0 0 noHandle e (omega arith) (omega arith) refl refl refl refl refl (number-none (z .handles)))
 
   -- ---- 12, 15 unpublish
-  ended : (n : ℕ) (why answer : Report) → t .stage ≡ n → n ≢ 0 → throughout 8 (λ op. implies (fitsOperation op n and true) (fitsOperation op 1)) ≡ true → Fine z s (pick (Stages.swapFailed z s t) (Stages.restarts t why) (Stages.finishes write.Nothing answer))
+  ended : (n : ℕ) (why answer : Report) → t .stage ≡ n → n ≢ 0 → throughout 9 (λ op. implies (fitsOperation op n and true) (fitsOperation op 1)) ≡ true → Fine z s (pick (Stages.swapFailed z s t) (Stages.restarts t why) (Stages.finishes write.Nothing answer))
   ended n why answer e ne fits =
       picked (Fine z s) (Stages.swapFailed z s t) (λ _. Going.restarted z lim s h t r _ (rw e ne) (Going.fit z lim s h t r n 1 (λ op. true) fits e ne refl)) (λ _. Going.finished z lim s h t r _ _ tt)
 
@@ -116,13 +117,34 @@ module _ (z : Sizes) (lim : Limited z) (s : Tables) (h : Tabled z (s .directory)
   scans-fine e =
       picked (Fine z s) (leb (t .argument) (t .key)) (λ _. Going.finished z lim s h t r _ _ tt)
       (λ _. picked (Fine z s) (ltb (firstPresent z s (locate z s (t .key)) (t .key) (t .argument) .0) (z .entries))
-      (λ _. record { allowed = tt; task = λ ts. cursor-right e _ })
-      (λ _. picked (Fine z s) (ltb (chunk s (locate z s (t .key)) .next .0) (z .chunks)) (λ _. record { allowed = tt; task = λ ts. cursor-right e _ }) (λ _. Going.finished z lim s h t r _ _ tt)))
+      (λ _. record { allowed = tt; task = λ ts ss. cursor-right e _ })
+      (λ _. picked (Fine z s) (ltb (chunk s (locate z s (t .key)) .next .0) (z .chunks)) (λ _. record { allowed = tt; task = λ ts ss. cursor-right e _ }) (λ _. Going.finished z lim s h t r _ _ tt)))
 
-  -- ---- every stage
-  pub decides-fine : Fine z s (Stages.decide z s t)
-  decides-fine =
-      each-stage z s t (Fine z s) (record {
+  -- ---- 23 scan down
+  scans-down-fine : (n : ℕ) → t .stage ≡ 23 → Fine z s (Stages.scansDown z s t n)
+  scans-down-fine n e =
+      picked (Fine z s) (ltb (Stages.topOf z s t n .0) (z .entries)) (λ _. record { allowed = tt; task = λ ts ss. r })
+      (λ _. picked (Fine z s) (Stages.isLowest z s t) (λ _. Going.finished z lim s h t r _ _ tt)
+      (λ _. Going.going z lim s h t r 23 next noEntry noHandle noHandle 0 0 (omega arith)
+      (record { fits = rw e at (H .fits); function = H .function; chunk = number-in _ _ (found .0); entry = refl; old = refl; new = refl; published = refl; swapped = refl })
+      (λ _. inr (found .1 .0, λ ne. absurd (ne down))) (Going.no-entry z lim s h _)))
+    where
+      H : Holds z t (holdAt 23)
+      H = Going.holds-at z lim s h t r 23 e (omega arith)
+
+      next : ChunkNo
+      next = Stages.nextDown z s t
+
+      found : (next .0 < z .chunks) × ((chunk s next .status ≡ live) × InRange z (s .chunks) next (Stages.sought z s t))
+      found = Going.located z lim s h (Stages.sought z s t)
+
+      down : t .operation ≡ scanDown
+      down = eqb-true _ _ (fits-test 23 (λ op. eqb op scanDown) refl (t .operation) (rw e at (H .fits)))
+
+  -- ---- every stage, of task number n
+  pub decides-fine : (n : ℕ) → Fine z s (Stages.decide z s n t)
+  decides-fine n =
+      each-stage z s n t (Fine z s) (record {
         locates = early.locates-fine z lim s h t r;
         finds = early.finds-fine z lim s h t r;
         reads = early.reads-fine z lim s h t r;
@@ -141,5 +163,6 @@ module _ (z : Sizes) (lim : Limited z) (s : Tables) (h : Tabled z (s .directory)
         readsAgain = reads-again-fine;
         endsRemove = λ e. Going.finished z lim s h t r _ _ tt;
         scans = scans-fine;
-        stays = λ _. record { allowed = tt; task = λ ts. r };
+        scansDown = scans-down-fine n;
+        stays = λ _. record { allowed = tt; task = λ ts ss. r };
       })

@@ -12,7 +12,7 @@ use Rattle.rules.specs.declared.Entry.{Entry}
 use Rattle.rules.specs.declared.ChunkNo.{ChunkNo}
 use Rattle.rules.specs.declared.EntryNo.{EntryNo}
 use Rattle.rules.specs.Words.{NONE, chunkNo, noChunk, unused, live, idle}
-use Rattle.rules.specs.Tables.{idleTask, emptyChunk, emptyEntry, chunkAt, entryAt}
+use Rattle.rules.specs.Tables.{idleTask, emptyChunk, emptyEntry, emptyStack, chunkAt, entryAt}
 use Rattle.rules.specs.Rebalance.{withStatus}
 use Rattle.rules.specs.Shape.{liveCount}
 use Rattle.rules.specs.Calls.{fresh}
@@ -22,7 +22,9 @@ use Rattle.views.proofs.Rows.{chunk-put, live-set, one}
 use Rattle.views.proofs.Entries.{links-view}
 use Rattle.statements.specs.Sound.{Limited}
 use Rattle.facts.specs.Facts.{RowRight, ListRight, listed, Chained, Roles, Rebalancing, Tasked, Kept}
+use Rattle.rules.proofs.Fresh.{getD-replicate}
 use Rattle.facts.proofs.Numbers.{number-none}
+use Rattle.facts.proofs.Stacking.{none-stacked}
 
 -- every row of such a table is the one, past its end too
 pub getD-all : {A : Type 0} (n i : ℕ) (a : A) → getD (replicate n a) i a ≡ a
@@ -152,6 +154,8 @@ module _ (z : Sizes) (lim : Limited z) where
               made = λ e. absurd (three e);
             };
         tasks = λ n. rw (getD-all (z .tasks) n idleTask) idle-task;
+        stacks-sized = length-replicate (z .tasks) (emptyStack z);
+        stacks = λ n b. rw (getD-replicate (z .tasks) n (emptyStack z) [] b) (none-stacked z cs es _);
       }
     where
       three : _≡_ {A = ℕ} 0 3 → ⊥

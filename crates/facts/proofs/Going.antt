@@ -19,8 +19,8 @@ use Rattle.rules.specs.declared.Decision.{Decision}
 use Rattle.rules.specs.declared.Report.{Report}
 use Rattle.rules.specs.declared.Write.{Write}
 use Rattle.rules.specs.declared.Write.the-variants as write
-use Rattle.rules.specs.Words.{_and_, _or_, NONE, live, new}
-use Rattle.rules.specs.Tables.{Tables, idleTask, withTasks, chunk, entry}
+use Rattle.rules.specs.Words.{_and_, NONE, live, new}
+use Rattle.rules.specs.Tables.{Tables, idleTask, withOwn, chunk, entry}
 use Rattle.rules.specs.Walks.{locate, find, InRange}
 use Rattle.rules.specs.Stages
 use Rattle.rules.specs.Shape.{fitsOperation}
@@ -37,7 +37,7 @@ use Rattle.facts.proofs.Shapes.{chain-short}
 -- a stage's outcome: its write is allowed, and after it the task's row has the facts
 pub record Fine (z : Sizes) (s : Tables) (x : Decision) : Type 0 where
   pub allowed : Allowed z (s .chunks) (s .entries) (x .write)
-  pub task : (ts : List Task) → Tasked z (Stages.apply z (withTasks s ts) (x .write) .chunks) (Stages.apply z (withTasks s ts) (x .write) .entries) (x .task)
+  pub task : (ts : List Task) (ss : List (List EntryNo)) → Tasked z (Stages.apply z (withOwn s ts ss) (x .write) .chunks) (Stages.apply z (withOwn s ts ss) (x .write) .entries) (x .task)
 
 module _ (z : Sizes) (lim : Limited z) (s : Tables) (h : Tabled z (s .directory) (s .chunks) (s .entries)) where
   pub no-chunk : (P : Type 0) → NONE < z .chunks → P
@@ -74,13 +74,13 @@ module _ (z : Sizes) (lim : Limited z) (s : Tables) (h : Tabled z (s .directory)
   module _ (t : Task) (r : Tasked z (s .chunks) (s .entries) t) where
     -- a task that has finished, or starts again
     pub finished : (w : Write) (a : Report) → Allowed z (s .chunks) (s .entries) w → Fine z s (Stages.finishes w a)
-    finished w a ok = record { allowed = ok; task = λ ts. idle-right _ _ }
+    finished w a ok = record { allowed = ok; task = λ ts ss. idle-right _ _ }
 
     pub restarted : (why : Report) → t .stage ≢ 0 → fitsOperation (t .operation) 1 ≡ true → Fine z s (Stages.restarts t why)
     restarted why ne f =
         record {
           allowed = tt;
-          task = λ ts.
+          task = λ ts ss.
               record {
                 idle = λ e. absurd (one e);
                 holds = λ _. record { fits = f; function = r .holds ne .function; chunk = refl; entry = refl; old = refl; new = refl; published = refl; swapped = refl };
@@ -97,15 +97,15 @@ module _ (z : Sizes) (lim : Limited z) (s : Tables) (h : Tabled z (s .directory)
 
     -- a row that goes on, by what its stage must hold
     pub row-right : (n : ℕ) (c : ChunkNo) (e : EntryNo) (o m : HandleNo) (p w : ℕ) → n ≢ 0 → Holds z (Stages.goesTo t n c e o m p w) (holdAt n) →
-        (c .0 < z .chunks → ChunkOfKey z (s .chunks) c (t .key)) → (e .0 < z .entries → EntryHeld z (s .chunks) (s .entries) c e (t .key) n) → Tasked z (s .chunks) (s .entries) (Stages.goesTo t n c e o m p w)
+        (c .0 < z .chunks → ChunkOfKey z (s .chunks) (t .operation) c (t .key)) → (e .0 < z .entries → EntryHeld z (s .chunks) (s .entries) c e (t .key) n) → Tasked z (s .chunks) (s .entries) (Stages.goesTo t n c e o m p w)
     row-right n c e o m p w ne holds ck en = record { idle = λ q. absurd (ne q); holds = λ _. holds; chunk-of-key = ck; entry = en }
 
     pub going : (n : ℕ) (c : ChunkNo) (e : EntryNo) (o m : HandleNo) (p w : ℕ) → n ≢ 0 → Holds z (Stages.goesTo t n c e o m p w) (holdAt n) →
-        (c .0 < z .chunks → ChunkOfKey z (s .chunks) c (t .key)) → (e .0 < z .entries → EntryHeld z (s .chunks) (s .entries) c e (t .key) n) →
+        (c .0 < z .chunks → ChunkOfKey z (s .chunks) (t .operation) c (t .key)) → (e .0 < z .entries → EntryHeld z (s .chunks) (s .entries) c e (t .key) n) →
         Fine z s (Stages.moves (Stages.goesTo t n c e o m p w) write.Nothing)
-    going n c e o m p w ne holds ck en = record { allowed = tt; task = λ ts. row-right n c e o m p w ne holds ck en }
+    going n c e o m p w ne holds ck en = record { allowed = tt; task = λ ts ss. row-right n c e o m p w ne holds ck en }
 
-    pub fit : (n m : ℕ) (when : ℕ → Bool) → throughout 8 (λ op. implies (fitsOperation op n and when op) (fitsOperation op m)) ≡ true → t .stage ≡ n → n ≢ 0 → when (t .operation) ≡ true → fitsOperation (t .operation) m ≡ true
+    pub fit : (n m : ℕ) (when : ℕ → Bool) → throughout 9 (λ op. implies (fitsOperation op n and when op) (fitsOperation op m)) ≡ true → t .stage ≡ n → n ≢ 0 → when (t .operation) ≡ true → fitsOperation (t .operation) m ≡ true
     fit n m when all e ne w = fits-move n m when all (t .operation) (rw e at (holds-at n e ne .fits)) w
 
     -- a held entry that is linked stays so at any stage

@@ -6,6 +6,7 @@ pub mod Writes
 pub mod Linking
 pub mod Applying
 pub mod Going
+pub mod Stacking
 pub mod Stages
 pub mod Ends
 pub mod Tasks

@@ -132,7 +132,7 @@ module _ (z : Sizes) (lim : Limited z) (first : ChunkNo) (cs : List Chunk) (es :
         record {
           idle = r .idle;
           holds = r .holds;
-          chunk-of-key = λ bt. ⊎-map (λ p. ap (λ (y : Chunk). y .status) (put-other (t .chunk) ne) ∙ p) (λ p. (ap (λ (y : Chunk). y .status) (put-other (t .chunk) ne) ∙ p .0, put-range (t .chunk) (t .key) bt (p .0) (p .1))) (r .chunk-of-key bt);
+          chunk-of-key = λ bt. ⊎-map (λ p. ap (λ (y : Chunk). y .status) (put-other (t .chunk) ne) ∙ p) (λ p. (ap (λ (y : Chunk). y .status) (put-other (t .chunk) ne) ∙ p .0, λ op. put-range (t .chunk) (t .key) bt (p .0) (p .1 op))) (r .chunk-of-key bt);
           entry = λ be. held (r .entry be);
         }
       where

@@ -17,8 +17,8 @@ use Rattle.rules.specs.declared.Chunk.{Chunk}
 use Rattle.rules.specs.declared.Entry.{Entry}
 use Rattle.rules.specs.declared.ChunkNo.{ChunkNo}
 use Rattle.rules.specs.declared.EntryNo.{EntryNo}
-use Rattle.rules.specs.Words.{_and_, NONE, chunkNo, noChunk, unused, live, new, idle, toRelease}
-use Rattle.rules.specs.Tables.{Tables, idleTask, emptyChunk, emptyEntry, withDirectory, chunkAt, entryAt, chunk, task, putChunk}
+use Rattle.rules.specs.Words.{NONE, chunkNo, noChunk, unused, live, new, idle, toRelease}
+use Rattle.rules.specs.Tables.{Tables, idleTask, emptyChunk, emptyEntry, withDirectory, chunkAt, entryAt, chunk, task, putChunk, withChunks, withEntries}
 use Rattle.rules.specs.Rebalance.{Outcome, heldChunk, clears, releases}
 use Rattle.laws.proofs.Tests.{picked, by-test}
 use Rattle.views.specs.Views.{Links}
@@ -26,8 +26,9 @@ use Rattle.views.specs.Copies.{cleared}
 use Rattle.views.proofs.Copies.{clears-is, cleared-length, cleared-other, cleared-here}
 use Rattle.views.proofs.Entries.{links-view}
 use Rattle.statements.specs.Sound.{Limited}
-use Rattle.facts.specs.Facts.{ListRight, listed, Roles, Rebalancing, Tabled, Kept}
+use Rattle.facts.specs.Facts.{ListRight, listed, Roles, Rebalancing, Tabled, Leaves, Kept}
 use Rattle.facts.proofs.Numbers.{number-none}
+use Rattle.facts.proofs.Stacking.{same-leaves, stacked-kept}
 use Rattle.facts.proofs.Writes.{same-chunk}
 use Rattle.facts.proofs.Putting.{Based, based-of, based-put, put-here, put-other, put-task}
 
@@ -128,6 +129,22 @@ module _ (z : Sizes) (lim : Limited z) (s : Tables) (kept : Kept z s) (releasing
           is-new : (s .directory .new .0 ≡ f .0) ⊎ (s .directory .second .0 ≡ f .0) → (chunk s f .frozen ≡ 0) × ((chunk s f .status ≡ unused) ⊎ (chunk s f .status ≡ live))
           is-new o = (r .new not-old o .0, inr (r .new not-old o .1 ∙ rw releasing))
 
+  abbrev after : Tables
+  after = withChunks (withEntries (withDirectory s (record { first = s .directory .first; stage = idle; old = noChunk; new = noChunk; second = noChunk })) es) cs
+
+  -- no task holds the chunk that goes
+  unheld : (n : ℕ) → task s n .chunk ≢ old
+  unfolding old
+  unheld n p = none-holds (s .tasks) (s .directory .old) n free (λ e. absurd (omega (arith, lim .chunks, old-in, e))) (ap (λ (c : ChunkNo). c .0) p)
+
+  after-leaves : (n : ℕ) → Leaves z s after (task s n .chunk)
+  unfolding cs es
+  after-leaves n =
+      record {
+        tasked = λ t e r. put-task z lim (s .directory .first) (s .chunks) (s .entries) base old emptyChunk es old-in was zero-one len rows t (λ p. unheld n (sym e ∙ p)) r;
+        min = λ _. ap (λ (y : Chunk). y .min) (put-other z lim (s .directory .first) (s .chunks) (s .entries) base old emptyChunk es old-in was zero-one len rows (task s n .chunk) (unheld n));
+      }
+
   cleared-kept : Kept z (putChunk (clears z s (z .entries) (withDirectory s (record { first = s .directory .first; stage = idle; old = noChunk; new = noChunk; second = noChunk })) (s .directory .old)) (s .directory .old) emptyChunk)
   unfolding d cs es old
   cleared-kept =
@@ -147,7 +164,9 @@ module _ (z : Sizes) (lim : Limited z) (s : Tables) (kept : Kept z s) (releasing
               rebalancing = record { known = omega arith; none = λ _. refl; unmade = λ _. (refl, refl); old = λ b. absurd (late b); room = λ b _. absurd (late b); new = λ b. absurd (later b); second = λ b. absurd (later b); apart = λ b. absurd (later b); old-new = λ b. absurd (later b); old-second = λ b. absurd (later b); roles = roles };
               made = λ e. absurd (three e);
             };
-        tasks = λ n. put-task z lim (s .directory .first) (s .chunks) (s .entries) base old emptyChunk es old-in was zero-one len rows (task s n) (λ e. none-holds (s .tasks) old n free old-some (ap (λ (c : ChunkNo). c .0) e)) (kept .tasks n);
+        tasks = λ n. after-leaves n .tasked (task s n) refl (kept .tasks n);
+        stacks-sized = kept .stacks-sized;
+        stacks = λ n b. stacked-kept z lim s kept after n (after-leaves n) b;
       })
     where
       late : 1 ≤ 0 → ⊥
@@ -159,8 +178,11 @@ module _ (z : Sizes) (lim : Limited z) (s : Tables) (kept : Kept z s) (releasing
       three : _≡_ {A = ℕ} 0 3 → ⊥
       three e = omega arith
 
-      old-some : s .directory .old .0 ≢ NONE
-      old-some e = omega (arith, lim .chunks, old-in)
-
 pub release-kept : (z : Sizes) → Limited z → (s : Tables) → Kept z s → s .directory .stage ≡ toRelease → Kept z (releases z s .tables)
 release-kept z lim s kept e = picked (λ (o : Outcome). Kept z (o .tables)) (heldChunk (s .tasks) (s .directory .old)) (λ _. kept) (λ f. cleared-kept z lim s kept e f)
+
+pub release-leaves : (z : Sizes) → Limited z → (s : Tables) → Kept z s → s .directory .stage ≡ toRelease → (n : ℕ) → Leaves z s (releases z s .tables) (task s n .chunk)
+unfolding es cs old
+release-leaves z lim s kept e n =
+    picked (λ (o : Outcome). Leaves z s (o .tables) (task s n .chunk)) (heldChunk (s .tasks) (s .directory .old)) (λ _. same-leaves z s (task s n .chunk))
+    (λ f. rw (clears-is z (s .directory .old) s (z .entries) (withDirectory s (record { first = s .directory .first; stage = idle; old = noChunk; new = noChunk; second = noChunk }))) (after-leaves z lim s kept e f n))

@@ -1,4 +1,5 @@
 -- No call on tables that have the shape reports refusal 10.
+use Prim.Native.Nat.{ℕ}
 use mathlib.Core.Path.{_≡_, sym, ap, _∙_}
 use mathlib.Core.Logic.{_≢_}
 use mathlib.Core.Bool.{Bool, false, false≢true}
@@ -28,9 +29,9 @@ pub not-ten : (r : Report) → ten r ≡ false → r ≢ report.Refused 10
 not-ten r e q = false≢true (sym e ∙ ap ten q)
 
 module _ (z : Sizes) (s : Tables) where
-  decides-ok : (t : Task) → ten (Stages.decide z s t .report) ≡ false
+  decides-ok : (n : ℕ) (t : Task) → ten (Stages.decide z s n t .report) ≡ false
   unfolding Stages.stageDoes
-  decides-ok t = simp (pick-of ten, pick-of (λ (x : Decision). ten (x .report)), pick-of (λ (f : Sizes → Tables → Task → Decision). ten (f z s t .report)), pick-same)
+  decides-ok n t = simp (pick-of ten, pick-of (λ (x : Decision). ten (x .report)), pick-of (λ (f : Sizes → Tables → Task → Decision). ten (f z s t .report)), pick-same)
 
   pub does-ok : (c : Call) → ten (does z s c .report) ≡ false
   unfolding does rebalanceDoes

@@ -136,7 +136,7 @@ module _ (z : Sizes) (cs cs′ : List Chunk) (same : Same cs cs′) where
         record {
           idle = h .idle;
           holds = h .holds;
-          chunk-of-key = λ b. ⊎-map (λ p. same .status (t .chunk) ∙ p) (λ p. (same .status (t .chunk) ∙ p .0, range-kept (t .chunk) (t .key) (p .1))) (h .chunk-of-key b);
+          chunk-of-key = λ b. ⊎-map (λ p. same .status (t .chunk) ∙ p) (λ p. (same .status (t .chunk) ∙ p .0, λ op. range-kept (t .chunk) (t .key) (p .1 op))) (h .chunk-of-key b);
           entry = λ b. held (h .entry b);
         }
       where

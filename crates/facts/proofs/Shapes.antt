@@ -1,13 +1,13 @@
 -- Tables of which the facts hold, and in which a remove past its mark holds a deleted handle, have document 01's shape.
 use Prim.Native.Nat.{ℕ, zero, suc, _+_, _*_, _≤_, _<_}
-use mathlib.Core.Path.{_≡_, refl}
+use mathlib.Core.Path.{_≡_, refl, sym, ap, _∙_}
 use mathlib.Core.Logic.{_⊎_, ⊎-elim, ⊎-map, _≢_}
-use mathlib.Core.Bool.{Bool, true, false}
-use mathlib.Core.List.{List, [], _∷_, List·Memᴰ·head}
+use mathlib.Core.Bool.{Bool, true, false, false≢true}
+use mathlib.Core.List.{List, [], _∷_, List·Memᴰ, List·Memᴰ·head, List·Memᴰ·tail}
 use native.Mathlib.Nat.{zero-add, le-trans}
 use native.Mathlib.Omega.{arith}
 use lib.Dec.{eqb, ltb, leb}
-use lib.ListN.{length, getD, drop, length-take}
+use lib.ListN.{length, getD, drop, replicate, length-take, length-replicate}
 use lib.Seq.{getD-take, getD-drop}
 use borrow.Author.Tests.{lt-ltb, le-leb, eq-eqb, ne-eqb, ltb-true, ltb-false, leb-true, eqb-true, eqb-false}
 use Rattle.rules.specs.declared.Sizes.{Sizes}
@@ -15,19 +15,24 @@ use Rattle.rules.specs.declared.Directory.{Directory}
 use Rattle.rules.specs.declared.Task.{Task}
 use Rattle.rules.specs.declared.Chunk.{Chunk}
 use Rattle.rules.specs.declared.ChunkNo.{ChunkNo}
-use Rattle.rules.specs.Words.{pick, _and_, _or_, chunkNo, entryNo, unused, live, new, retired, usesFunction, idle, toDrain, toCopy, toSwap, toRelease}
-use Rattle.rules.specs.Tables.{Tables, idleTask, emptyChunk, emptyEntry, chunk, entry, mark, task}
+use Rattle.rules.specs.declared.EntryNo.{EntryNo}
+use Rattle.rules.specs.Words.{pick, _and_, _or_, NONE, chunkNo, entryNo, noEntry, unused, live, new, retired, usesFunction, idle, toDrain, toCopy, toSwap, toRelease}
+use Rattle.rules.specs.Tables.{Tables, idleTask, emptyChunk, emptyEntry, emptyStack, chunk, entryAt, entry, mark, task, stack}
+use Rattle.rules.specs.Walks.{over}
+use Rattle.rules.specs.Map.{Ascends}
 use Rattle.rules.specs.Rebalance.{unusedCount}
-use Rattle.rules.specs.Shape.{each, slotsOf, isNone, isEmptyChunk, fitsOperation, Hold, hold, stageList, liveCount, markAs, shape, sized, chunkRight, slotRight, chunkNumbers, chained, taskRight, holdsRight, holdsEntry, chunkFits, rebalanceFits, ascendsFrom, beforeCopy, afterCopy}
-use Rattle.laws.specs.Counts.{all}
-use Rattle.laws.proofs.Tests.{picked, by-test, both, and-left, and-right, or-cases, or-left, or-right}
+use Rattle.rules.specs.Shape.{each, slotsOf, isNone, isEmptyChunk, fitsOperation, Hold, hold, stageList, liveCount, markAs, shape, sized, chunkRight, slotRight, chunkNumbers, chained, taskRight, risesFrom, stackRight, holdsRight, holdsEntry, chunkFits, rebalanceFits, ascendsFrom, beforeCopy, afterCopy}
+use Rattle.rules.proofs.Tests.{from-picked}
+use Rattle.laws.specs.Counts.{Every, all}
+use Rattle.laws.proofs.Tests.{picked, by-test, both, and-right, or-cases, or-left, or-right}
 use Rattle.laws.proofs.Lists.{each-by, all-at}
 use Rattle.views.specs.Views.{Links}
-use Rattle.views.proofs.Entries.{links-length, links-ascends, links-linked}
+use Rattle.views.proofs.Entries.{links-below, links-length, links-ascends, links-linked}
+use Rattle.views.proofs.Stacks.{all-none, over-length}
 use Rattle.views.proofs.Chunks.{chain-count, chain-live}
-use Rattle.facts.proofs.Numbers.{held-always, head-right}
+use Rattle.facts.proofs.Numbers.{number-cases, held-always, head-right}
 use Rattle.statements.specs.Sound.{Limited}
-use Rattle.facts.specs.Facts.{RowRight, SlotRight, listed, Chained, Roles, Rebalancing, Tabled, Holds, holdAt, EntryHeld, MarksHeld, Kept}
+use Rattle.facts.specs.Facts.{RowRight, SlotRight, listed, Chained, Roles, Rebalancing, Tabled, Holds, holdAt, EntryHeld, Stacked, MarksHeld, Kept}
 
 live-count-le : (cs : List Chunk) → liveCount cs ≤ length cs
 unfolding liveCount
@@ -38,17 +43,22 @@ live-count-le (x ∷ cs) = picked (λ (n : ℕ). n ≤ suc (length cs)) (eqb (x 
 pub chain-short : (z : Sizes) (cs : List Chunk) (first : ChunkNo) → length cs ≡ z .chunks → (c : Chained z first cs) → length (first ∷ c .rest) ≤ z .chunks
 chain-short z cs first len c = rw (c .counted, ← len) (live-count-le cs)
 
--- a stage that holds an entry holds a chunk
-rows-right : all (λ h. leb (h .chunk) 1 and leb (h .entry) (h .chunk)) stageList ≡ true
+-- an entry is held always or never
+rows-right : all (λ h. leb (h .entry) 1) stageList ≡ true
 unfolding all
 rows-right = refl
+
+empty-by : (l : List EntryNo) → (l ≢ [] → ⊥) → l ≡ []
+empty-by [] h = refl
+empty-by (x ∷ l) h = absurd (h (λ e. omega (arith, ap length e)))
 
 module _ (z : Sizes) (lim : Limited z) (s : Tables) (kept : Kept z s) (deleted : MarksHeld z s) where
   tables : Tabled z (s .directory) (s .chunks) (s .entries)
   tables = kept .tables
 
   sized-right : sized z s ≡ true
-  sized-right = rw (kept .tasks-sized, tables .chunks-sized, tables .entries-sized, kept .values-sized, kept .marks-sized, eq-eqb (z .tasks) (z .tasks) refl, eq-eqb (z .chunks) (z .chunks) refl, eq-eqb (z .chunks * z .entries) (z .chunks * z .entries) refl, eq-eqb (z .handles) (z .handles) refl)
+  sized-right = rw (kept .stacks-sized, kept .tasks-sized, tables .chunks-sized, tables .entries-sized, kept .values-sized, kept .marks-sized, eq-eqb (z .tasks) (z .tasks) refl, eq-eqb (z .chunks) (z .chunks) refl, eq-eqb (z .chunks * z .entries) (z .chunks * z .entries) refl, eq-eqb (z .handles) (z .handles) refl)
+      (each-by (λ n (w : List EntryNo). eqb (length w) (z .entries)) 0 (s .stacks) [] (λ n b. let k = kept .stacks n (rw (kept .stacks-sized) at b) in eq-eqb _ _ (ap length (k .words) ∙ over-length (k .on) (emptyStack z) ∙ length-replicate (z .entries) noEntry)))
 
   marks-right : each (λ n m. leb m 1) 0 (s .marks) ≡ true
   marks-right = each-by (λ n m. leb m 1) 0 (s .marks) 0 (λ i b. le-leb _ _ (kept .marks i))
@@ -189,32 +199,29 @@ module _ (z : Sizes) (lim : Limited z) (s : Tables) (kept : Kept z s) (deleted :
       h : Hold
       h = holdAt (t .stage)
 
-      row : (leb (h .chunk) 1 and leb (h .entry) (h .chunk)) ≡ true
-      row = all-at (λ h. leb (h .chunk) 1 and leb (h .entry) (h .chunk)) stageList (t .stage) (hold 0 0 0 0 0 0) rows-right refl
+      row : leb (h .entry) 1 ≡ true
+      row = all-at (λ h. leb (h .entry) 1) stageList (t .stage) (hold 0 0 0 0 0 0) rows-right refl
 
-      chunk-row : h .chunk ≤ 1
-      chunk-row = leb-true (h .chunk) 1 (and-left (leb (h .chunk) 1) (leb (h .entry) (h .chunk)) row)
+      not-two : eqb (h .entry) 2 ≡ false
+      not-two = ne-eqb (h .entry) 2 (λ e. omega (arith, leb-true (h .entry) 1 row))
 
-      entry-row : h .entry ≤ h .chunk
-      entry-row = leb-true (h .entry) (h .chunk) (and-right (leb (h .chunk) 1) (leb (h .entry) (h .chunk)) row)
-
-      not-two : (m : ℕ) → m ≤ 1 → eqb m 2 ≡ false
-      not-two m le = ne-eqb m 2 (λ e. omega arith)
-
-      at-chunk : eqb (h .chunk) 0 ≡ false → Holds z t h → t .chunk .0 < z .chunks
-      at-chunk e w = held-always (h .chunk) (z .chunks) (t .chunk .0) e (not-two (h .chunk) chunk-row) (w .chunk)
+      -- a held chunk's number is of the table, whether it is held always or perhaps
+      at-chunk : Holds z t h → isNone (t .chunk .0) ≡ false → t .chunk .0 < z .chunks
+      at-chunk w some =
+          from-picked (eqb (h .chunk) 0) _ _ (λ _ i. absurd (false≢true (sym some ∙ i))) (λ _.
+          from-picked (eqb (h .chunk) 2) _ _ (λ _ i. ⊎-elim (λ b. b) (λ e. absurd (false≢true (sym some ∙ eq-eqb _ _ e))) (number-cases (z .chunks) (t .chunk .0) i)) (λ _. ltb-true _ _)) (w .chunk)
 
       lives : t .chunk .0 < z .chunks → 0 < chunk s (t .chunk) .status
       lives b = ⊎-elim (λ q. rw q (omega arith)) (λ q. rw (q .0) (omega arith)) (kept .tasks n .chunk-of-key b)
 
-      in-use : Holds z t h → pick (eqb (h .chunk) 0) true (ltb 0 (chunk s (t .chunk) .status)) ≡ true
-      in-use w = picked (λ (b : Bool). b ≡ true) (eqb (h .chunk) 0) (λ _. refl) (λ e. lt-ltb 0 (chunk s (t .chunk) .status) (lives (at-chunk e w)))
+      in-use : Holds z t h → pick (isNone (t .chunk .0)) true (ltb 0 (chunk s (t .chunk) .status)) ≡ true
+      in-use w = picked (λ (b : Bool). b ≡ true) (isNone (t .chunk .0)) (λ _. refl) (λ e. lt-ltb 0 (chunk s (t .chunk) .status) (lives (at-chunk w e)))
 
       there : Holds z t h → pick (eqb (h .entry) 0) true (holdsEntry z s t) ≡ true
       there w = picked (λ (b : Bool). b ≡ true) (eqb (h .entry) 0) (λ _. refl) (λ e. holds-entry n (held e))
         where
           held : eqb (h .entry) 0 ≡ false → EntryHeld z (s .chunks) (s .entries) (t .chunk) (t .entry) (t .key) (t .stage)
-          held e = kept .tasks n .entry (held-always (h .entry) (z .entries) (t .entry .0) e (not-two (h .entry) (le-trans entry-row chunk-row)) (w .entry))
+          held e = kept .tasks n .entry (held-always (h .entry) (z .entries) (t .entry .0) e not-two (w .entry))
 
       marked : Holds z t h → markAs (h .old) (mark s (t .old)) ≡ true
       marked w = picked (λ (b : Bool). b ≡ true) (eqb (h .old) 3) (λ e. let three = eqb-true (h .old) 3 e in eq-eqb _ _ (deleted n e (held-always (h .old) (z .handles) (t .old .0) (rw three) (rw three) (w .old)))) (λ _. refl)
@@ -222,9 +229,40 @@ module _ (z : Sizes) (lim : Limited z) (s : Tables) (kept : Kept z s) (deleted :
       busy : Holds z t h → (fitsOperation (t .operation) (t .stage) and pick (usesFunction (t .operation)) (leb 1 (t .function) and leb (t .function) 3) true and holdsRight z s t h) ≡ true
       busy w = both _ _ (w .fits) (both _ _ (w .function) (both _ _ (w .chunk) (both _ _ (w .entry) (both _ _ (w .old) (both _ _ (w .new) (both _ _ (w .published) (both _ _ (w .swapped) (both _ _ (marked w) (both _ _ (in-use w) (there w))))))))))
 
+  -- a stack's words, by the entries on it
+  stack-rises : (c : ChunkNo) → c .0 < z .chunks → (l : List EntryNo) (m k : ℕ) → Every (λ e. List·Memᴰ e (listed z (s .chunks) (s .entries) c)) l → Ascends (λ e. entryAt z (s .entries) c e .key) k l →
+      risesFrom z (s .entries) c (chunk s c .head) k (over l (replicate m noEntry)) ≡ true
+  unfolding over risesFrom Ascends each
+  stack-rises c b [] zero k links rises = refl
+  stack-rises c b [] (suc m) k links rises = each-by (λ n (e : EntryNo). isNone (e .0)) 0 (replicate m noEntry) noEntry (λ i _. rw (all-none m i))
+  stack-rises c b (e ∷ l) zero k links rises = refl
+  stack-rises c b (e ∷ l) (suc m) k links rises =
+      rw (ne-eqb (e .0) NONE (λ q. absurd (omega (arith, q, small, lim .entries))))
+      (both _ _ (both _ _ (links-linked z (s .entries) c (chunk s c .used) (tables .lists c b .row .used) (lim .entries) (z .entries) 0 (chunk s c .head) e (listed z (s .chunks) (s .entries) c) short links₀ (links e (List·Memᴰ·head refl))) (le-leb _ _ (rises .0)))
+      (stack-rises c b l m _ (λ x n. links x (List·Memᴰ·tail n)) (rises .1)))
+    where
+      links₀ : Links z (s .entries) c (chunk s c .used) 0 (chunk s c .head) (listed z (s .chunks) (s .entries) c)
+      links₀ = tables .lists c b .links
+
+      short : length (listed z (s .chunks) (s .entries) c) ≤ z .entries
+      short = le-trans (links-length z (s .entries) c (chunk s c .used) 0 (chunk s c .head) (listed z (s .chunks) (s .entries) c) links₀) (tables .lists c b .row .used)
+
+      small : e .0 < z .entries
+      small = le-trans (links-below z (s .entries) c (chunk s c .used) 0 (chunk s c .head) (listed z (s .chunks) (s .entries) c) links₀ e (links e (List·Memᴰ·head refl))) (tables .lists c b .row .used)
+
+  stack-right : (n : ℕ) → n < z .tasks → stackRight z s n (task s n) ≡ true
+  unfolding over
+  stack-right n b = rw (k .words) (picked (λ (b : Bool). b ≡ true) (eqb (task s n .stage) 23 and ltb (task s n .chunk .0) (z .chunks)) (λ e. stack-rises (task s n .chunk) (ltb-true _ _ (and-right (eqb (task s n .stage) 23) _ e)) (k .on) (z .entries) 0 (k .linked) (k .rises)) (λ e. rw (nothing e) (each-by (λ n (e : EntryNo). isNone (e .0)) 0 (emptyStack z) noEntry (λ i _. rw (all-none (z .entries) i)))))
+    where
+      k : Stacked z (s .chunks) (s .entries) (task s n) (stack s n)
+      k = kept .stacks n b
+
+      nothing : (eqb (task s n .stage) 23 and ltb (task s n .chunk .0) (z .chunks)) ≡ false → k .on ≡ []
+      nothing e = empty-by (k .on) (λ ne. absurd (false≢true (sym e ∙ both _ _ (eq-eqb _ _ (k .held ne .0)) (lt-ltb _ _ (k .held ne .1)))))
+
   pub has-shape : shape z s ≡ true
   unfolding shape
-  has-shape = both _ _ sized-right (both _ _ marks-right (both _ _ (lt-ltb _ _ first) (both _ _ chunks-right (both _ _ chain-right (both _ _ (each-by (taskRight z s) 0 (s .tasks) idleTask (λ i b. task-right i)) rebalance-right)))))
+  has-shape = both _ _ sized-right (both _ _ marks-right (both _ _ (lt-ltb _ _ first) (both _ _ chunks-right (both _ _ chain-right (both _ _ (each-by (taskRight z s) 0 (s .tasks) idleTask (λ i b. task-right i)) (both _ _ (each-by (stackRight z s) 0 (s .tasks) idleTask (λ i b. rw (zero-add i) (stack-right i (rw (kept .tasks-sized) at b)))) rebalance-right))))))
     where
       first : s .directory .first .0 < z .chunks
       first = chain-live z (s .chunks) 0 _ _ (tables .chained .chain) (s .directory .first) (List·Memᴰ·head refl) .0

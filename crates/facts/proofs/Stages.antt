@@ -1,19 +1,21 @@
 -- Stages 1 to 10, 13, 16 and 19 of a task: the write is allowed, and the task's row afterwards has the facts.
 use Prim.Native.Nat.{ℕ, _≤_, _<_}
-use mathlib.Core.Path.{_≡_, refl}
+use mathlib.Core.Path.{_≡_, refl, sym, ap, _∙_}
 use mathlib.Core.Logic.{_⊎_, inl, inr, ⊎-elim, _≢_}
-use mathlib.Core.Bool.{true, not}
+use mathlib.Core.Bool.{true, not, false≢true}
 use mathlib.Core.List.{List}
 use native.Mathlib.Omega.{arith}
 use lib.Dec.{eqb, ltb}
 use borrow.Author.Tests.{lt-ltb, ltb-true, ltb-false, eqb-true}
 use Rattle.rules.specs.declared.Sizes.{Sizes}
+use Rattle.rules.specs.declared.EntryNo.{EntryNo}
 use Rattle.rules.specs.declared.Task.{Task}
 use Rattle.rules.specs.declared.Write.the-variants as write
-use Rattle.rules.specs.Words.{_and_, _or_, NONE, noChunk, noEntry, noHandle, unused, live, new, retired, inserts, get, put, putIfAbsent, remove}
-use Rattle.rules.specs.Tables.{Tables, withTasks, chunk, entry, mark}
+use Rattle.rules.specs.Words.{_and_, NONE, noChunk, noEntry, noHandle, unused, live, new, retired, inserts, get, put, putIfAbsent, remove, scanDown}
+use Rattle.rules.specs.Tables.{Tables, withOwn, chunk, entry, mark}
 use Rattle.rules.specs.Walks.{locate, find, place, lowestFree, InRange}
 use Rattle.rules.specs.Stages
+use Rattle.rules.specs.Shape.{fitsOperation}
 use Rattle.laws.proofs.Tests.{picked}
 use Rattle.statements.specs.Sound.{Limited}
 use Rattle.facts.specs.Facts.{Tabled, Holds, holdAt, EntryHeld, Tasked, Waits}
@@ -30,12 +32,12 @@ module _ (z : Sizes) (lim : Limited z) (s : Tables) (h : Tabled z (s .directory)
       let H = Going.holds-at z lim s h t r 1 e (omega arith) in
       rw e (Going.going z lim s h t r 2 (locate z s (t .key)) noEntry (t .old) noHandle 0 0 (omega arith)
       (record { fits = Going.fit z lim s h t r 1 2 (λ op. true) refl e (omega arith) refl; function = H .function; chunk = lt-ltb _ _ (Going.located z lim s h (t .key) .0); entry = refl; old = H .old; new = refl; published = refl; swapped = refl })
-      (λ _. inr (Going.located z lim s h (t .key) .1)) (Going.no-entry z lim s h _))
+      (λ _. inr (Going.located z lim s h (t .key) .1 .0, λ _. Going.located z lim s h (t .key) .1 .1)) (Going.no-entry z lim s h _))
   locates-fine (inr e) =
       let H = Going.holds-at z lim s h t r 16 e (omega arith) in
       rw e (Going.going z lim s h t r 17 (locate z s (t .key)) noEntry (t .old) noHandle 0 0 (omega arith)
       (record { fits = Going.fit z lim s h t r 16 17 (λ op. true) refl e (omega arith) refl; function = H .function; chunk = lt-ltb _ _ (Going.located z lim s h (t .key) .0); entry = refl; old = H .old; new = refl; published = refl; swapped = refl })
-      (λ _. inr (Going.located z lim s h (t .key) .1)) (Going.no-entry z lim s h _))
+      (λ _. inr (Going.located z lim s h (t .key) .1 .0, λ _. Going.located z lim s h (t .key) .1 .1)) (Going.no-entry z lim s h _))
 
   -- ---- 2 find
   pub finds-fine : t .stage ≡ 2 → Fine z s (Stages.finds z s t)
@@ -91,7 +93,7 @@ module _ (z : Sizes) (lim : Limited z) (s : Tables) (h : Tabled z (s .directory)
       let H = Going.holds-at z lim s h t r 5 e (omega arith) in
       record {
         allowed = tt;
-        task = λ ts. Going.row-right z lim s h t r 16 noChunk noEntry (t .old) noHandle 0 0 (omega arith)
+        task = λ ts ss. Going.row-right z lim s h t r 16 noChunk noEntry (t .old) noHandle 0 0 (omega arith)
             (record { fits = Going.fit z lim s h t r 5 16 (λ op. eqb op remove) refl e (omega arith) g; function = H .function; chunk = refl; entry = refl; old = H .old; new = refl; published = refl; swapped = refl })
             (Going.no-chunk z lim s h _) (Going.no-entry z lim s h _);
       }
@@ -111,7 +113,7 @@ module _ (z : Sizes) (lim : Limited z) (s : Tables) (h : Tabled z (s .directory)
 
   -- ---- 6 take entry
   pub in-use : t .chunk .0 < z .chunks → (chunk s (t .chunk) .status ≢ unused) × (chunk s (t .chunk) .status ≢ new)
-  in-use b = ⊎-elim (λ (p : chunk s (t .chunk) .status ≡ retired). rw p (omega arith)) (λ (p : (chunk s (t .chunk) .status ≡ live) × InRange z (s .chunks) (t .chunk) (t .key)). rw (p .0) (omega arith)) (r .chunk-of-key b)
+  in-use b = ⊎-elim (λ (p : chunk s (t .chunk) .status ≡ retired). rw p (omega arith)) (λ (p : (chunk s (t .chunk) .status ≡ live) × (t .operation ≢ scanDown → InRange z (s .chunks) (t .chunk) (t .key))). rw (p .0) (omega arith)) (r .chunk-of-key b)
 
   pub takes-entry-fine : t .stage ≡ 6 → Fine z s (Stages.takesEntry z s t)
   takes-entry-fine e =
@@ -121,7 +123,7 @@ module _ (z : Sizes) (lim : Limited z) (s : Tables) (h : Tabled z (s .directory)
       (λ _. picked (Fine z s) (ltb (chunk s (t .chunk) .used) (z .entries))
       (λ i. record {
         allowed = (b, in-use b .0, ltb-true _ _ i);
-        task = λ ts. record {
+        task = λ ts ss. record {
           idle = λ q. absurd (seven q);
           holds = λ _. record { fits = Going.fit z lim s h t r 6 7 (λ op. true) refl e (omega arith) refl; function = H .function; chunk = H .chunk; entry = i; old = refl; new = refl; published = refl; swapped = refl };
           chunk-of-key = slot-written z lim (s .directory) (s .chunks) (s .entries) h (t .chunk) (t .key) b (in-use b .0) (ltb-true _ _ i) .tasks t r .chunk-of-key;
@@ -138,8 +140,11 @@ module _ (z : Sizes) (lim : Limited z) (s : Tables) (h : Tabled z (s .directory)
   module _ (e : t .stage ≡ 7) (o : z .entries ≤ find z s (t .chunk) (t .key) .0) where
     waiting : Holds z t (holdAt 7) → Waits z (s .chunks) (s .entries) (t .chunk) (t .entry) (place z s (t .chunk) (t .key)) (t .key)
     waiting H =
-        record { numbered = b; inUse = in-use b .0; notNew = in-use b .1; used = x .used; keyed = x .keyed; lacks = Going.lacks-key z lim s h t r (t .chunk) b (t .key) o; placed = refl; range = λ l. ⊎-elim (λ (p : chunk s (t .chunk) .status ≡ retired). absurd (neither l p)) (λ p. p .1) (r .chunk-of-key b) }
+        record { numbered = b; inUse = in-use b .0; notNew = in-use b .1; used = x .used; keyed = x .keyed; lacks = Going.lacks-key z lim s h t r (t .chunk) b (t .key) o; placed = refl; range = λ l. ⊎-elim (λ (p : chunk s (t .chunk) .status ≡ retired). absurd (neither l p)) (λ p. p .1 not-down) (r .chunk-of-key b) }
       where
+        not-down : t .operation ≢ scanDown
+        not-down q = absurd (false≢true (ap (λ (op : ℕ). fitsOperation op 7) (sym q) ∙ rw e at (H .fits)))
+
         b : t .chunk .0 < z .chunks
         b = ltb-true _ _ (H .chunk)
 
@@ -149,24 +154,24 @@ module _ (z : Sizes) (lim : Limited z) (s : Tables) (h : Tabled z (s .directory)
         neither : chunk s (t .chunk) .status ≡ live → chunk s (t .chunk) .status ≡ retired → ⊥
         neither l p = omega arith
 
-    linked-then : (ts : List Task) → Holds z t (holdAt 7) → (m : ℕ) → t .entry .0 < z .entries →
-        EntryHeld z (Stages.applyLink z (withTasks s ts) (t .chunk) (t .entry) (place z s (t .chunk) (t .key)) .chunks) (Stages.applyLink z (withTasks s ts) (t .chunk) (t .entry) (place z s (t .chunk) (t .key)) .entries) (t .chunk) (t .entry) (t .key) m
-    linked-then ts H m b =
-        record { inside = x .inside; used = x .used; keyed = x .keyed; linked = λ _. link-applied-linked z lim (withTasks s ts) h (t .chunk) (t .entry) (place z s (t .chunk) (t .key)) (t .key) (waiting H) }
+    linked-then : (ts : List Task) (ss : List (List EntryNo)) → Holds z t (holdAt 7) → (m : ℕ) → t .entry .0 < z .entries →
+        EntryHeld z (Stages.applyLink z (withOwn s ts ss) (t .chunk) (t .entry) (place z s (t .chunk) (t .key)) .chunks) (Stages.applyLink z (withOwn s ts ss) (t .chunk) (t .entry) (place z s (t .chunk) (t .key)) .entries) (t .chunk) (t .entry) (t .key) m
+    linked-then ts ss H m b =
+        record { inside = x .inside; used = x .used; keyed = x .keyed; linked = λ _. link-applied-linked z lim (withOwn s ts ss) h (t .chunk) (t .entry) (place z s (t .chunk) (t .key)) (t .key) (waiting H) }
       where
-        x : EntryHeld z (Stages.applyLink z (withTasks s ts) (t .chunk) (t .entry) (place z s (t .chunk) (t .key)) .chunks) (Stages.applyLink z (withTasks s ts) (t .chunk) (t .entry) (place z s (t .chunk) (t .key)) .entries) (t .chunk) (t .entry) (t .key) (t .stage)
-        x = applied-by z lim (withTasks s ts) h (write.Link (t .chunk) (t .entry) (place z s (t .chunk) (t .key))) (t .key, waiting H) .written .tasks t r .entry b
+        x : EntryHeld z (Stages.applyLink z (withOwn s ts ss) (t .chunk) (t .entry) (place z s (t .chunk) (t .key)) .chunks) (Stages.applyLink z (withOwn s ts ss) (t .chunk) (t .entry) (place z s (t .chunk) (t .key)) .entries) (t .chunk) (t .entry) (t .key) (t .stage)
+        x = applied-by z lim (withOwn s ts ss) h (write.Link (t .chunk) (t .entry) (place z s (t .chunk) (t .key))) (t .key, waiting H) .written .tasks t r .entry b
 
     pub links-new-fine : Fine z s (Stages.moves (Stages.keeps t 8) (write.Link (t .chunk) (t .entry) (place z s (t .chunk) (t .key))))
     links-new-fine =
         let H = Going.holds-at z lim s h t r 7 e (omega arith) in
         record {
           allowed = (t .key, waiting H);
-          task = λ ts. record {
+          task = λ ts ss. record {
             idle = λ q. absurd (eight q);
             holds = λ _. record { fits = Going.fit z lim s h t r 7 8 (λ op. true) refl e (omega arith) refl; function = H .function; chunk = H .chunk; entry = H .entry; old = rw (eqb-true (t .old .0) NONE (H .old)) (number-none (z .handles)); new = H .new; published = H .published; swapped = H .swapped };
-            chunk-of-key = applied-by z lim (withTasks s ts) h (write.Link (t .chunk) (t .entry) (place z s (t .chunk) (t .key))) (t .key, waiting H) .written .tasks t r .chunk-of-key;
-            entry = linked-then ts H 8;
+            chunk-of-key = applied-by z lim (withOwn s ts ss) h (write.Link (t .chunk) (t .entry) (place z s (t .chunk) (t .key))) (t .key, waiting H) .written .tasks t r .chunk-of-key;
+            entry = linked-then ts ss H 8;
           };
         }
       where
@@ -191,7 +196,7 @@ module _ (z : Sizes) (lim : Limited z) (s : Tables) (h : Tabled z (s .directory)
       picked (Fine z s) (ltb (lowestFree z s .0) (z .handles))
       (λ i. record {
         allowed = tt;
-        task = λ ts. Going.row-right z lim s h t r 9 (t .chunk) (t .entry) (t .old) (lowestFree z s) 0 0 (omega arith)
+        task = λ ts ss. Going.row-right z lim s h t r 9 (t .chunk) (t .entry) (t .old) (lowestFree z s) 0 0 (omega arith)
             (record { fits = Going.fit z lim s h t r 8 9 (λ op. true) refl e (omega arith) refl; function = H .function; chunk = H .chunk; entry = H .entry; old = H .old; new = i; published = refl; swapped = refl })
             (r .chunk-of-key) (Going.entry-at z lim s h t r 8 e (omega arith) 9);
       })
@@ -203,7 +208,7 @@ module _ (z : Sizes) (lim : Limited z) (s : Tables) (h : Tabled z (s .directory)
       let H = Going.holds-at z lim s h t r 9 e (omega arith) in
       record {
         allowed = tt;
-        task = λ ts. Going.row-right z lim s h t r 10 (t .chunk) (t .entry) (t .old) (t .new) (t .published) (t .swapped) (omega arith)
+        task = λ ts ss. Going.row-right z lim s h t r 10 (t .chunk) (t .entry) (t .old) (t .new) (t .published) (t .swapped) (omega arith)
             (record { fits = Going.fit z lim s h t r 9 10 (λ op. true) refl e (omega arith) refl; function = H .function; chunk = H .chunk; entry = H .entry; old = H .old; new = H .new; published = H .published; swapped = H .swapped })
             (r .chunk-of-key) (Going.entry-at z lim s h t r 9 e (omega arith) 10);
       }

@@ -19,9 +19,9 @@ use Rattle.rules.specs.Shape.{liveCount}
 use Rattle.laws.proofs.Tests.{picked}
 use Rattle.views.proofs.Rows.{live-set, one}
 use Rattle.statements.specs.Sound.{Limited}
-use Rattle.facts.specs.Facts.{Kept}
+use Rattle.facts.specs.Facts.{Leaves, Kept}
 use Rattle.facts.proofs.Swapping
-use Rattle.facts.proofs.Swapping.{Swapped, newOnes, beforeOld}
+use Rattle.facts.specs.Swapped.{Swapped, newOnes, beforeOld}
 
 put-ne : (cs : List Chunk) (d : ChunkNo) (x : Chunk) (f : ChunkNo) → f ≢ d → chunkAt (set cs (d .0) x) f ≡ chunkAt cs f
 put-ne cs d x f ne = getD-set-other cs (d .0) (f .0) x emptyChunk (λ e. ne (ap chunkNo e))
@@ -189,18 +189,25 @@ module _ (z : Sizes) (lim : Limited z) (s : Tables) (kept : Kept z s) (swapping 
   abbrev then-at : Directory
   then-at = record { first = pick (eqb (first .0) (old .0)) a first; stage = toRelease; old = old; new = a; second = b }
 
-  -- the chunk before written or not, the second new chunk written or not
-  by-second : (cs : List Chunk) → Before cs → Kept z (withDirectory (putChunk (pick (hasSecond z s) (putChunk (putChunk (withChunks s cs) a row-a) b row-b) (putChunk (withChunks s cs) a row-a)) old row-old) then-at)
-  by-second cs w =
-      picked (λ (x : Tables). Kept z (withDirectory (putChunk x old row-old) then-at)) (hasSecond z s)
-      (λ t. Swapping.swapped-kept z lim s kept swapping _ (two-swapped cs w (ltb-true _ _ t)))
-      (λ t. Swapping.swapped-kept z lim s kept swapping _ (one-swapped cs w (⊎-elim (λ i. absurd (out i (ltb-false _ _ t))) (λ e. e) (Swapping.two-or-not z lim s kept swapping))))
-    where
-      out : b .0 < z .chunks → z .chunks ≤ b .0 → ⊥
-      out i o = omega arith
+  -- what holds of the tables by what swap in makes of the chunks holds of those that it leaves: the chunk before written or not, the second new chunk written or not
+  module _ (P : Tables → Type 0) (by : (cs : List Chunk) → Swapped z s cs → P (withDirectory (withChunks s cs) then-at)) where
+    by-second : (cs : List Chunk) → Before cs → P (withDirectory (putChunk (pick (hasSecond z s) (putChunk (putChunk (withChunks s cs) a row-a) b row-b) (putChunk (withChunks s cs) a row-a)) old row-old) then-at)
+    by-second cs w =
+        picked (λ (x : Tables). P (withDirectory (putChunk x old row-old) then-at)) (hasSecond z s)
+        (λ t. by _ (two-swapped cs w (ltb-true _ _ t)))
+        (λ t. by _ (one-swapped cs w (⊎-elim (λ i. absurd (out i (ltb-false _ _ t))) (λ e. e) (Swapping.two-or-not z lim s kept swapping))))
+      where
+        out : b .0 < z .chunks → z .chunks ≤ b .0 → ⊥
+        out i o = omega arith
+
+    swapped-by : P (swapsIn z s .tables)
+    swapped-by =
+        picked (λ (x : Tables). P (withDirectory (putChunk (pick (hasSecond z s) (putChunk (putChunk x a row-a) b row-b) (putChunk x a row-a)) old row-old) then-at)) (eqb (first .0) (old .0))
+        (λ t. by-second (s .chunks) (none-before (ap chunkNo (eqb-true _ _ t))))
+        (λ t. by-second (set (s .chunks) (p .0) row-p) (one-before (λ e. eqb-false _ _ t (ap (λ (c : ChunkNo). c .0) e))))
 
   pub swap-in-kept : Kept z (swapsIn z s .tables)
-  swap-in-kept =
-      picked (λ (x : Tables). Kept z (withDirectory (putChunk (pick (hasSecond z s) (putChunk (putChunk x a row-a) b row-b) (putChunk x a row-a)) old row-old) then-at)) (eqb (first .0) (old .0))
-      (λ t. by-second (s .chunks) (none-before (ap chunkNo (eqb-true _ _ t))))
-      (λ t. by-second (set (s .chunks) (p .0) row-p) (one-before (λ e. eqb-false _ _ t (ap (λ (c : ChunkNo). c .0) e))))
+  swap-in-kept = swapped-by (Kept z) (Swapping.swapped-kept z lim s kept swapping)
+
+  pub swap-in-leaves : (f : ChunkNo) → Leaves z s (swapsIn z s .tables) f
+  swap-in-leaves f = swapped-by (λ x. Leaves z s x f) (λ cs w. Swapping.swapped-leaves z lim s kept swapping cs w f)

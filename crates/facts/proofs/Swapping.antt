@@ -3,11 +3,10 @@ use Prim.Native.Nat.{ℕ, _+_, _≤_, _<_}
 use mathlib.Core.Path.{_≡_, refl, sym, ap, _∙_, subst}
 use mathlib.Core.Logic.{_⊎_, inl, inr, ⊎-elim, _≢_}
 use mathlib.Core.Bool.{true}
-use mathlib.Core.List.{List, [], _∷_, _++_, List·Memᴰ, List·Memᴰ·head, List·Memᴰ·tail, List·Memᴰ·cases-cons}
+use mathlib.Core.List.{List, _∷_, _++_, List·Memᴰ, List·Memᴰ·head, List·Memᴰ·tail, List·Memᴰ·cases-cons}
 use native.Mathlib.Nat.{le-trans, le-refl}
 use native.Mathlib.Omega.{arith}
 use lib.Dec.{eqb, ltb}
-use lib.ListN.{length}
 use borrow.Author.Tests.{eq-eqb, ne-eqb, lt-ltb, le-ltb}
 use Rattle.rules.specs.declared.Sizes.{Sizes}
 use Rattle.rules.specs.declared.Directory.{Directory}
@@ -16,38 +15,23 @@ use Rattle.rules.specs.declared.Chunk.{Chunk}
 use Rattle.rules.specs.declared.ChunkNo.{ChunkNo}
 use Rattle.rules.specs.Words.{pick, NONE, chunkNo, unused, live, new, retired, toSwap, toRelease}
 use Rattle.rules.specs.Tables.{Tables, chunkAt, entryAt, chunk, task, withDirectory, withChunks}
-use Rattle.rules.specs.Walks.{beforeFrom, InRange}
+use Rattle.rules.specs.Walks.{InRange}
 use Rattle.rules.specs.Rebalance.{withStatus, liveBefore, withNextChunk}
-use Rattle.rules.specs.Shape.{numbers, liveCount}
+use Rattle.rules.specs.Shape.{numbers}
 use Rattle.laws.specs.Counts.{Every, Apart}
 use Rattle.laws.proofs.Tests.{picked}
 use Rattle.views.specs.Views.{Links, Chain, replaced}
+use Rattle.views.proofs.Rows.{in-use-row}
 use Rattle.views.proofs.Chunks.{chain-live, chain-swap, chain-swap-first, chain-raise, chain-apart, chain-rises, before-next, replaced-new, replaced-old, replaced-length}
 use Rattle.statements.specs.Sound.{Limited}
-use Rattle.facts.specs.Facts.{RowRight, ListRight, listed, Chained, KeyInRange, Roles, Made, Rebalancing, Tabled, ChunkOfKey, EntryHeld, Tasked, Kept}
+use Rattle.facts.specs.Facts.{RowRight, ListRight, listed, Chained, KeyInRange, Roles, Made, Rebalancing, Tabled, ChunkOfKey, EntryHeld, Tasked, Leaves, Kept}
+use Rattle.facts.specs.Swapped.{newOnes, beforeOld, Swapped}
 use Rattle.facts.proofs.Numbers.{number-in, number-cases}
 use Rattle.facts.proofs.Shapes.{chain-short}
+use Rattle.facts.proofs.Stacking.{stacked-kept}
 use Rattle.facts.proofs.Sames.{list-quiet}
 use Rattle.facts.proofs.Writes.{same-chunk}
 use Rattle.facts.proofs.Putting.{chained-by}
-
--- the new ones, of which there may be one
-abbrev pub newOnes : Sizes → Directory → List ChunkNo
-newOnes z d = pick (ltb (d .second .0) (z .chunks)) (d .new ∷ d .second ∷ []) (d .new ∷ [])
-
--- the one before the old chunk
-abbrev pub beforeOld : Sizes → Tables → ChunkNo
-beforeOld z s = beforeFrom z (s .chunks) (z .chunks) (s .directory .first) (s .directory .old)
-
--- what swap in writes to the chunks' rows
-pub record Swapped (z : Sizes) (s : Tables) (cs : List Chunk) : Type 0 where
-  pub sized : length cs ≡ length (s .chunks)
-  pub counted : liveCount cs + 1 ≡ liveCount (s .chunks) + length (newOnes z (s .directory))
-  pub old : chunkAt cs (s .directory .old) ≡ withStatus (chunk s (s .directory .old)) retired
-  pub new : chunkAt cs (s .directory .new) ≡ liveBefore (chunk s (s .directory .new)) (pick (ltb (s .directory .second .0) (z .chunks)) (s .directory .second) (chunk s (s .directory .old) .next))
-  pub second : s .directory .second .0 < z .chunks → chunkAt cs (s .directory .second) ≡ liveBefore (chunk s (s .directory .second)) (chunk s (s .directory .old) .next)
-  pub before : s .directory .first ≢ s .directory .old → chunkAt cs (beforeOld z s) ≡ withNextChunk (chunk s (beforeOld z s)) (s .directory .new)
-  pub other : (f : ChunkNo) → f ≢ s .directory .old → f ≢ s .directory .new → f ≢ s .directory .second → (s .directory .first ≢ s .directory .old → f ≢ beforeOld z s) → chunkAt cs f ≡ chunk s f
 
 module _ (z : Sizes) (lim : Limited z) (s : Tables) (kept : Kept z s) (swapping : s .directory .stage ≡ toSwap) where
   h : Tabled z (s .directory) (s .chunks) (s .entries)
@@ -360,15 +344,21 @@ module _ (z : Sizes) (lim : Limited z) (s : Tables) (kept : Kept z s) (swapping 
         third : _≡_ {A = ℕ} 1 3 → ⊥
         third e = omega arith
 
-        of-key : t .chunk .0 < z .chunks → (t .chunk ≡ old) ⊎ (t .chunk ≢ old) → ChunkOfKey z (s .chunks) (t .chunk) (t .key) → ChunkOfKey z cs (t .chunk) (t .key)
+        of-key : t .chunk .0 < z .chunks → (t .chunk ≡ old) ⊎ (t .chunk ≢ old) → ChunkOfKey z (s .chunks) (t .operation) (t .chunk) (t .key) → ChunkOfKey z cs (t .operation) (t .chunk) (t .key)
         of-key i (inl e) k = inl (ap (λ (c : ChunkNo). chunkAt cs c .status) e ∙ ap (λ (y : Chunk). y .status) (w .old))
         of-key i (inr ne) (inl e) = inl (row-is (t .chunk) (λ y. y .status ≡ retired) i (λ r. absurd (ne r)) (λ r. absurd (unlike (t .chunk) a e a-new (omega arith) r)) (λ r. absurd (unlike (t .chunk) b e (b-new (rw (← r) i)) (omega arith) r)) (λ nf r. absurd (unlike (t .chunk) p e (p-live nf .1) (omega arith) r)) (λ _ _ _. e))
-        of-key i (inr ne) (inr e) = inr (stays-live (t .chunk) i (e .0) ne, range-kept (t .chunk) (t .key) i (e .0) ne (e .1))
+        of-key i (inr ne) (inr e) = inr (stays-live (t .chunk) i (e .0) ne, λ op. range-kept (t .chunk) (t .key) i (e .0) ne (e .1 op))
 
         held : EntryHeld z (s .chunks) (s .entries) (t .chunk) (t .entry) (t .key) (t .stage) → EntryHeld z cs (s .entries) (t .chunk) (t .entry) (t .key) (t .stage)
         held y = record { inside = y .inside; used = rw (alike (t .chunk) (y .inside) .2) (y .used); keyed = y .keyed; linked = λ o. rw (quiet (t .chunk) (y .inside) .0) (y .linked o) }
 
-    pub swapped-kept : Kept z (withDirectory (withChunks s cs) (record { first = pick (eqb (s .directory .first .0) (s .directory .old .0)) (s .directory .new) (s .directory .first); stage = toRelease; old = s .directory .old; new = s .directory .new; second = s .directory .second }))
+    abbrev pub then : Tables
+    then = withDirectory (withChunks s cs) (record { first = pick (eqb (s .directory .first .0) (s .directory .old .0)) (s .directory .new) (s .directory .first); stage = toRelease; old = s .directory .old; new = s .directory .new; second = s .directory .second })
+
+    pub swapped-leaves : (f : ChunkNo) → Leaves z s then f
+    swapped-leaves f = record { tasked = λ t _ r. task-right t r; min = λ u. alike f (rw (h .chunks-sized) at (in-use-row (s .chunks) f u)) .0 }
+
+    pub swapped-kept : Kept z then
     swapped-kept =
         record {
           tasks-sized = kept .tasks-sized;
@@ -386,6 +376,8 @@ module _ (z : Sizes) (lim : Limited z) (s : Tables) (kept : Kept z s) (swapping 
                 made = λ e. absurd (three e);
               };
           tasks = λ n. task-right (task s n) (kept .tasks n);
+          stacks-sized = kept .stacks-sized;
+          stacks = λ n b. stacked-kept z lim s kept then n (swapped-leaves (task s n .chunk)) b;
         }
       where
         four : _≡_ {A = ℕ} 4 0 → ⊥

@@ -3,7 +3,7 @@ use Prim.Native.Nat.{ℕ, _*_, _≤_, _<_}
 use mathlib.Core.Path.{_≡_}
 use mathlib.Core.Logic.{_⊎_, _≢_}
 use mathlib.Core.Bool.{true}
-use mathlib.Core.List.{List, _∷_, List·Memᴰ}
+use mathlib.Core.List.{List, [], _∷_, List·Memᴰ}
 use lib.Dec.{eqb, leb}
 use lib.ListN.{length, getD}
 use Rattle.rules.specs.declared.Sizes.{Sizes}
@@ -15,9 +15,10 @@ use Rattle.rules.specs.declared.ChunkNo.{ChunkNo}
 use Rattle.rules.specs.declared.EntryNo.{EntryNo}
 use Rattle.rules.specs.declared.Write.{Write}
 use Rattle.rules.specs.declared.Write.the-variants as write
-use Rattle.rules.specs.Words.{pick, _and_, NONE, noEntry, unused, live, new, retired, usesFunction, idle, toCopy, toSwap, toRelease}
-use Rattle.rules.specs.Tables.{Tables, idleTask, emptyChunk, emptyEntry, chunkAt, entryAt, mark, task}
-use Rattle.rules.specs.Walks.{listFrom, placeFrom, InRange}
+use Rattle.rules.specs.Words.{pick, _and_, NONE, noEntry, unused, live, new, retired, scanDown, usesFunction, idle, toCopy, toSwap, toRelease}
+use Rattle.rules.specs.Tables.{Tables, idleTask, emptyChunk, emptyEntry, emptyStack, chunkAt, entryAt, mark, task, stack}
+use Rattle.rules.specs.Walks.{listFrom, placeFrom, over, InRange}
+use Rattle.rules.specs.Map.{Ascends}
 use Rattle.rules.specs.Rebalance.{unusedCount}
 use Rattle.rules.specs.Shape.{numbers, heldAs, flagAs, fitsOperation, Hold, hold, stageList, liveCount}
 use Rattle.laws.specs.Counts.{Every}
@@ -121,9 +122,9 @@ pub record Holds (z : Sizes) (t : Task) (h : Hold) : Type 0 where
   pub published : flagAs (h .published) (t .published) ≡ true
   pub swapped : flagAs (h .swapped) (t .swapped) ≡ true
 
--- chunk-of-key: a held chunk is retired, or it is live and its range has the task's key
-abbrev pub ChunkOfKey : Sizes → List Chunk → ChunkNo → ℕ → Type 0
-ChunkOfKey z cs c k = (chunkAt cs c .status ≡ retired) ⊎ ((chunkAt cs c .status ≡ live) × InRange z cs c k)
+-- chunk-of-key: a held chunk is retired, or it is live and, but for a scan down, its range has the task's key
+abbrev pub ChunkOfKey : Sizes → List Chunk → ℕ → ChunkNo → ℕ → Type 0
+ChunkOfKey z cs op c k = (chunkAt cs c .status ≡ retired) ⊎ ((chunkAt cs c .status ≡ live) × (op ≢ scanDown → InRange z cs c k))
 
 -- a held entry is used, has the task's key, and is linked, except at 7
 pub record EntryHeld (z : Sizes) (cs : List Chunk) (es : List Entry) (c : ChunkNo) (e : EntryNo) (k stage : ℕ) : Type 0 where
@@ -135,8 +136,17 @@ pub record EntryHeld (z : Sizes) (cs : List Chunk) (es : List Entry) (c : ChunkN
 pub record Tasked (z : Sizes) (cs : List Chunk) (es : List Entry) (t : Task) : Type 0 where
   pub idle : t .stage ≡ 0 → t ≡ idleTask
   pub holds : t .stage ≢ 0 → Holds z t (holdAt (t .stage))
-  pub chunk-of-key : t .chunk .0 < z .chunks → ChunkOfKey z cs (t .chunk) (t .key)
+  pub chunk-of-key : t .chunk .0 < z .chunks → ChunkOfKey z cs (t .operation) (t .chunk) (t .key)
   pub entry : t .entry .0 < z .entries → EntryHeld z cs es (t .chunk) (t .entry) (t .key) (t .stage)
+
+-- a task's stack: its words are the entries on it, from the bottom, laid over none; they are linked in the held chunk, keys rising; nothing is on it elsewhere than at 23
+pub record Stacked (z : Sizes) (cs : List Chunk) (es : List Entry) (t : Task) (w : List EntryNo) : Type 0 where
+  pub on : List EntryNo
+  pub words : w ≡ over on (emptyStack z)
+  pub short : length on ≤ z .entries
+  pub linked : Every (λ e. List·Memᴰ e (listed z cs es (t .chunk))) on
+  pub rises : Ascends (λ e. entryAt z es (t .chunk) e .key) 0 on
+  pub held : on ≢ [] → (t .stage ≡ 23) × (t .chunk .0 < z .chunks)
 
 -- where the stage list says a deleted handle, the old handle's mark is 1
 abbrev pub MarksHeld : Sizes → Tables → Type 0
@@ -163,6 +173,11 @@ Allowed z cs es (write.Store h v) = Unit {0}
 Allowed z cs es (write.Delete h) = Unit {0}
 Allowed z cs es (write.Name c e h) = (c .0 < z .chunks) × (e .0 < chunkAt cs c .used) × (numbers (z .handles) (h .0) ≡ true)
 
+-- what a call leaves of a chunk that is held: what a task holds there, and its minimum key
+pub record Leaves (z : Sizes) (s x : Tables) (c : ChunkNo) : Type 0 where
+  pub tasked : (t : Task) → t .chunk ≡ c → Tasked z (s .chunks) (s .entries) t → Tasked z (x .chunks) (x .entries) t
+  pub min : chunkAt (s .chunks) c .status ≢ unused → chunkAt (x .chunks) c .min ≡ chunkAt (s .chunks) c .min
+
 -- ---- all of it
 pub record Kept (z : Sizes) (s : Tables) : Type 0 where
   pub tasks-sized : length (s .tasks) ≡ z .tasks
@@ -171,3 +186,5 @@ pub record Kept (z : Sizes) (s : Tables) : Type 0 where
   pub marks : (h : ℕ) → getD (s .marks) h 0 ≤ 1
   pub tables : Tabled z (s .directory) (s .chunks) (s .entries)
   pub tasks : (n : ℕ) → Tasked z (s .chunks) (s .entries) (task s n)
+  pub stacks-sized : length (s .stacks) ≡ z .tasks
+  pub stacks : (n : ℕ) → n < z .tasks → Stacked z (s .chunks) (s .entries) (task s n) (stack s n)

@@ -19,7 +19,7 @@ use Rattle.rules.specs.declared.HandleNo.{HandleNo}
 use Rattle.rules.specs.declared.Write.{Write}
 use Rattle.rules.specs.declared.Write.the-variants as write
 use Rattle.rules.specs.declared.Decision.{Decision}
-use Rattle.rules.specs.Words.{_and_, _or_, NONE, entryNo, noChunk, noEntry, noHandle, usesFunction, scan, idle, toDrain, toCopy, toSwap, toRelease}
+use Rattle.rules.specs.Words.{_and_, _or_, NONE, entryNo, noChunk, noEntry, noHandle, usesFunction, isScan, idle, toDrain, toCopy, toSwap, toRelease}
 use Rattle.rules.specs.Tables.{Tables, idleTask, emptyEntry, row, chunk, entry, task, putTask, withDirectory}
 use Rattle.rules.specs.Stages
 use Rattle.rules.specs.Rebalance.{Outcome, unusedCount, unusedFrom, publishedOn, heldChunk, namingFrom, makes, fill, at, begins, copies, swapsIn, releases, rebalanceDoes}
@@ -41,7 +41,7 @@ use Rattle.handles.proofs.Owning.{put-tasks}
 module _ (z : Sizes) (s : Tables) where
   -- ---- the rebalance leaves the tasks and the handles' records
   abbrev pub SameTasks : Tables → Type 0
-  SameTasks x = (x .tasks ≡ s .tasks) × (x .values ≡ s .values) × (x .marks ≡ s .marks)
+  SameTasks x = (x .tasks ≡ s .tasks) × (x .values ≡ s .values) × (x .marks ≡ s .marks) × (x .stacks ≡ s .stacks)
 
   fill-same : (x : Tables) (c : ChunkNo) (l : List Entry) → SameTasks x → SameTasks (fill z x c 0 l)
   fill-same x c l e = rw (fill-is z c x 0 l) e
@@ -49,8 +49,8 @@ module _ (z : Sizes) (s : Tables) where
   copy-tasks : SameTasks (copies z s .tables)
   copy-tasks =
       picked (λ (o : Outcome). SameTasks (o .tables)) (leb (length l) (z .entries / 2))
-      (λ _. fill-same (withDirectory s (at z s toSwap a noChunk)) a l (refl, refl, refl))
-      (λ _. fill-same (makes z (withDirectory s (at z s toSwap a b)) a (chunk s old .min) (take half l)) b (drop half l) (fill-same (withDirectory s (at z s toSwap a b)) a (take half l) (refl, refl, refl)))
+      (λ _. fill-same (withDirectory s (at z s toSwap a noChunk)) a l (refl, refl, refl, refl))
+      (λ _. fill-same (makes z (withDirectory s (at z s toSwap a b)) a (chunk s old .min) (take half l)) b (drop half l) (fill-same (withDirectory s (at z s toSwap a b)) a (take half l) (refl, refl, refl, refl)))
     where
       old : ChunkNo
       old = s .directory .old
@@ -68,10 +68,10 @@ module _ (z : Sizes) (s : Tables) where
       b = unusedFrom (drop (a .0 + 1) (s .chunks)) (a .0 + 1)
 
   pub swap-tasks : SameTasks (swapsIn z s .tables)
-  swap-tasks = swap-by z s SameTasks (refl, refl, refl) (λ x e. e) (λ x e. e) (λ x e. e) (λ x e. e) (λ x d e. e)
+  swap-tasks = swap-by z s SameTasks (refl, refl, refl, refl) (λ x e. e) (λ x e. e) (λ x e. e) (λ x e. e) (λ x d e. e)
 
   release-tasks : SameTasks (releases z s .tables)
-  release-tasks = picked (λ (o : Outcome). SameTasks (o .tables)) (heldChunk (s .tasks) (s .directory .old)) (λ _. (refl, refl, refl)) (λ _. rw (clears-is z (s .directory .old) s (z .entries) (withDirectory s to)) (refl, refl, refl))
+  release-tasks = picked (λ (o : Outcome). SameTasks (o .tables)) (heldChunk (s .tasks) (s .directory .old)) (λ _. (refl, refl, refl, refl)) (λ _. rw (clears-is z (s .directory .old) s (z .entries) (withDirectory s to)) (refl, refl, refl, refl))
     where
       to : Directory
       to = record { first = s .directory .first; stage = idle; old = noChunk; new = noChunk; second = noChunk }
@@ -79,16 +79,16 @@ module _ (z : Sizes) (s : Tables) where
   pub rebalance-tasks : SameTasks (does z s rebalance .tables)
   unfolding does rebalanceDoes
   rebalance-tasks =
-      picked Q (eqb (s .directory .stage) toDrain) (λ _. picked (λ (o : Outcome). SameTasks (o .tables)) (publishedOn (s .tasks) (s .directory .old)) (λ _. (refl, refl, refl)) (λ _. (refl, refl, refl)))
+      picked Q (eqb (s .directory .stage) toDrain) (λ _. picked (λ (o : Outcome). SameTasks (o .tables)) (publishedOn (s .tasks) (s .directory .old)) (λ _. (refl, refl, refl, refl)) (λ _. (refl, refl, refl, refl)))
       (λ _. picked Q (eqb (s .directory .stage) toCopy) (λ _. copy-tasks)
       (λ _. picked Q (eqb (s .directory .stage) toSwap) (λ _. swap-tasks)
-      (λ _. picked Q (eqb (s .directory .stage) toRelease) (λ _. release-tasks) (λ _. (refl, refl, refl)))))
+      (λ _. picked Q (eqb (s .directory .stage) toRelease) (λ _. release-tasks) (λ _. (refl, refl, refl, refl)))))
     where
       Q : (Sizes → Tables → Outcome) → Type 0
       Q f = SameTasks (f z s .tables)
 
   pub begin-tasks : (k : ℕ) → SameTasks (begins z s k .tables)
-  begin-tasks k = picked (λ (o : Outcome). SameTasks (o .tables)) (eqb (s .directory .stage) idle) (λ _. picked (λ (o : Outcome). SameTasks (o .tables)) (ltb (unusedCount (s .chunks)) 2) (λ _. (refl, refl, refl)) (λ _. (refl, refl, refl))) (λ _. (refl, refl, refl))
+  begin-tasks k = picked (λ (o : Outcome). SameTasks (o .tables)) (eqb (s .directory .stage) idle) (λ _. picked (λ (o : Outcome). SameTasks (o .tables)) (ltb (unusedCount (s .chunks)) 2) (λ _. (refl, refl, refl, refl)) (λ _. (refl, refl, refl, refl))) (λ _. (refl, refl, refl, refl))
 
 -- ---- every call
 module _ (z : Sizes) (lim : Limited z) (s : Tables) (kept : Kept z s) where
@@ -112,17 +112,17 @@ module _ (z : Sizes) (lim : Limited z) (s : Tables) (kept : Kept z s) where
   step-turns : (n : ℕ) → Turns (steps z s n .tables)
   step-turns n =
       picked (λ (o : Outcome). Turns (o .tables)) (leb (z .tasks) n) (λ _. same-turns s refl)
-      (λ b. picked (λ (o : Outcome). Turns (o .tables)) (eqb (task s n .stage) 0) (λ _. same-turns s refl) (λ _. put-turns (Stages.apply z (putTask s n (x .task)) (x .write)) n (x .task) (leb-false _ _ b) (applied-by z lim (putTask s n (x .task)) (kept .tables) (x .write) (decides-fine z lim s (kept .tables) (task s n) (kept .tasks n) .allowed) .tasks) (decides-pass z lim s (kept .tables) n (kept .tasks n) .passes)))
+      (λ b. picked (λ (o : Outcome). Turns (o .tables)) (eqb (task s n .stage) 0) (λ _. same-turns s refl) (λ _. put-turns (Stages.apply z (Stages.putOwn z s n (x .task)) (x .write)) n (x .task) (leb-false _ _ b) (applied-by z lim (Stages.putOwn z s n (x .task)) (kept .tables) (x .write) (decides-fine z lim s (kept .tables) (task s n) (kept .tasks n) n .allowed) .tasks) (decides-pass z lim s (kept .tables) n (kept .tasks n) .passes)))
     where
       x : Decision
-      x = Stages.decide z s (task s n)
+      x = Stages.decide z s n (task s n)
 
   start-turns : (n op k a f : ℕ) → Turns (starts z s n op k a f .tables)
   start-turns n op k a f =
       picked O (leb (z .tasks) n) (λ _. same-turns s refl)
       (λ b. picked O (eqb (task s n .stage) 0)
-      (λ _. picked O (ltb op 1 or ltb 7 op or (usesFunction op and (ltb f 1 or ltb 3 f))) (λ _. same-turns s refl)
-      (λ _. picked O (eqb op scan and ltb a k) (λ _. same-turns s refl) (λ _. put-turns (putTask s n (started z s op k a f)) n (started z s op k a f) (leb-false _ _ b) refl (record { old = inl refl; new = inl refl }))))
+      (λ _. picked O (ltb op 1 or ltb 8 op or (usesFunction op and (ltb f 1 or ltb 3 f))) (λ _. same-turns s refl)
+      (λ _. picked O (isScan op and ltb a k) (λ _. same-turns s refl) (λ _. put-turns (putTask s n (started z s op k a f)) n (started z s op k a f) (leb-false _ _ b) refl (record { old = inl refl; new = inl refl }))))
       (λ _. same-turns s refl))
     where
       O : Outcome → Type 0
@@ -195,10 +195,10 @@ module _ (z : Sizes) (lim : Limited z) (s : Tables) (kept : Kept z s) where
   none-names n h b lacks c e was =
       call-by z s (step n) (λ x. entry z x c e .handle .0 ≢ h) was
       (picked Q (leb (z .tasks) n) (λ _. was) (λ _. picked Q (eqb (task s n .stage) 0) (λ _. was)
-      (λ _ then. ⊎-elim (λ q. was (sym (ap (λ (h : HandleNo). h .0) q) ∙ then)) (⊎-elim (λ q. none (sym then ∙ q)) (λ q. lacks (inr (sym q ∙ then)))) (write-names z (task s n) (x .task) (putTask s n (x .task)) (row z c e) (x .write) (decides-pass z lim s (kept .tables) n (kept .tasks n) .names)))))
+      (λ _ then. ⊎-elim (λ q. was (sym (ap (λ (h : HandleNo). h .0) q) ∙ then)) (⊎-elim (λ q. none (sym then ∙ q)) (λ q. lacks (inr (sym q ∙ then)))) (write-names z (task s n) (x .task) (Stages.putOwn z s n (x .task)) (row z c e) (x .write) (decides-pass z lim s (kept .tables) n (kept .tasks n) .names)))))
     where
       x : Decision
-      x = Stages.decide z s (task s n)
+      x = Stages.decide z s n (task s n)
 
       none : h ≡ NONE → ⊥
       none q = omega (arith, lim .handles)

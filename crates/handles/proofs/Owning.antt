@@ -19,7 +19,7 @@ use Rattle.rules.specs.declared.EntryNo.{EntryNo}
 use Rattle.rules.specs.declared.Decision.{Decision}
 use Rattle.rules.specs.declared.Write.{Write}
 use Rattle.rules.specs.declared.Write.the-variants as write
-use Rattle.rules.specs.Words.{_and_, _or_, NONE, entryNo, noHandle, noEntry, noChunk, usesFunction, scan, idle, toDrain, toCopy, toSwap, toRelease}
+use Rattle.rules.specs.Words.{_and_, _or_, NONE, entryNo, noHandle, noEntry, noChunk, usesFunction, isScan, idle, toDrain, toCopy, toSwap, toRelease}
 use Rattle.rules.specs.Tables.{Tables, idleTask, emptyChunk, emptyEntry, withDirectory, withChunks, withEntries, chunk, entryAt, entry, task, putTask, putChunk, row}
 use Rattle.rules.specs.Walks.{linked}
 use Rattle.rules.specs.Stages
@@ -134,11 +134,11 @@ put-tasks z ts n t b m = elim (ℕ-discrete m n) [ yes e ↦ inl (e, there e) | 
     there e = rw e (getD-set-same ts n t idleTask b)
 
 module _ (z : Sizes) (lim : Limited z) (s : Tables) (kept : Kept z s) (own : OwnedBy z s) where
-  step-done : (n : ℕ) → n < z .tasks → (x : Decision) → Fine z s x → Passed z lim s (kept .tables) n (kept .tasks n) x → OwnedBy z (Stages.apply z (putTask s n (x .task)) (x .write))
-  step-done n b x fine pass = subst (λ (ts : List Task). Owned z (Stages.apply z (putTask s n (x .task)) (x .write) .entries) (λ m. getD ts m idleTask)) (sym (a .tasks)) (write-owned z lim s₁ (kept .tables) (task s n) (x .task) (task s) (task s₁) (x .write) (fine .allowed) (pass .names) apart own₁)
+  step-done : (n : ℕ) → n < z .tasks → (x : Decision) → Fine z s x → Passed z lim s (kept .tables) n (kept .tasks n) x → OwnedBy z (Stages.apply z (Stages.putOwn z s n (x .task)) (x .write))
+  step-done n b x fine pass = subst (λ (ts : List Task). Owned z (Stages.apply z (Stages.putOwn z s n (x .task)) (x .write) .entries) (λ m. getD ts m idleTask)) (sym (a .tasks)) (write-owned z lim s₁ (kept .tables) (task s n) (x .task) (task s) (task s₁) (x .write) (fine .allowed) (pass .names) apart own₁)
     where
       s₁ : Tables
-      s₁ = putTask s n (x .task)
+      s₁ = Stages.putOwn z s n (x .task)
 
       is : put z (task s) (task s₁) n (x .task)
       is = put-tasks z (s .tasks) n (x .task) (rw (kept .tasks-sized) b)
@@ -165,14 +165,14 @@ module _ (z : Sizes) (lim : Limited z) (s : Tables) (kept : Kept z s) (own : Own
   pub step-owned : (n : ℕ) → OwnedBy z (steps z s n .tables)
   step-owned n =
       picked (λ (o : Outcome). OwnedBy z (o .tables)) (leb (z .tasks) n) (λ _. own)
-      (λ b. picked (λ (o : Outcome). OwnedBy z (o .tables)) (eqb (task s n .stage) 0) (λ _. own) (λ _. step-done n (leb-false _ _ b) (Stages.decide z s (task s n)) (decides-fine z lim s (kept .tables) (task s n) (kept .tasks n)) (decides-pass z lim s (kept .tables) n (kept .tasks n))))
+      (λ b. picked (λ (o : Outcome). OwnedBy z (o .tables)) (eqb (task s n .stage) 0) (λ _. own) (λ _. step-done n (leb-false _ _ b) (Stages.decide z s n (task s n)) (decides-fine z lim s (kept .tables) (task s n) (kept .tasks n) n) (decides-pass z lim s (kept .tables) n (kept .tasks n))))
 
   pub start-owned : (n op k a f : ℕ) → OwnedBy z (starts z s n op k a f .tables)
   start-owned n op k a f =
       picked O (leb (z .tasks) n) (λ _. own)
       (λ b. picked O (eqb (task s n .stage) 0)
-      (λ _. picked O (ltb op 1 or ltb 7 op or (usesFunction op and (ltb f 1 or ltb 3 f))) (λ _. own)
-      (λ _. picked O (eqb op scan and ltb a k) (λ _. own) (λ _. task-owned z (lim .handles) (s .entries) (task s) (task (putTask s n (started z s op k a f))) n (started z s op k a f) (put-tasks z (s .tasks) n (started z s op k a f) (rw (kept .tasks-sized) (leb-false _ _ b))) own (record { old = inl refl; new = inl refl }))))
+      (λ _. picked O (ltb op 1 or ltb 8 op or (usesFunction op and (ltb f 1 or ltb 3 f))) (λ _. own)
+      (λ _. picked O (isScan op and ltb a k) (λ _. own) (λ _. task-owned z (lim .handles) (s .entries) (task s) (task (putTask s n (started z s op k a f))) n (started z s op k a f) (put-tasks z (s .tasks) n (started z s op k a f) (rw (kept .tasks-sized) (leb-false _ _ b))) own (record { old = inl refl; new = inl refl }))))
       (λ _. own))
     where
       O : Outcome → Type 0

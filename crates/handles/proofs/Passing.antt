@@ -99,9 +99,9 @@ module _ (z : Sizes) (lim : Limited z) (s : Tables) (h : Tabled z (s .directory)
       picked Passed (Stages.stillNames z s t)
       (λ _. both-on refl refl refl (λ _. eqb-true _ _ (H .swapped)) (record { chunk = ltb-true _ _ (H .chunk); entry = ltb-true _ _ (H .entry) }, inl refl)) (λ _. both-on refl refl refl (λ q. q) tt)
 
-  pub decides-pass : Passed (Stages.decide z s t)
+  pub decides-pass : Passed (Stages.decide z s n t)
   decides-pass =
-      each-stage z s t Passed (record {
+      each-stage z s n t Passed (record {
         locates = search passing;
         finds = search passing;
         reads = reads-pass;
@@ -120,5 +120,6 @@ module _ (z : Sizes) (lim : Limited z) (s : Tables) (h : Tabled z (s .directory)
         readsAgain = search passing;
         endsRemove = search passing;
         scans = λ e. let H = holds-at 22 e (omega arith) in search (passing, eqb-true (t .old .0) NONE (H .old), eqb-true (t .new .0) NONE (H .new));
+        scansDown = λ e. let H = holds-at 23 e (omega arith) in search (passing, eqb-true (t .old .0) NONE (H .old), eqb-true (t .new .0) NONE (H .new));
         stays = search passing;
       })

@@ -8,12 +8,13 @@ use mathlib.Core.Option.{some}
 use native.Mathlib.Nat.{not-suc-le-zero, le-refl}
 use native.Mathlib.Omega.{arith}
 use borrow.Author.Tests.{eqb-true}
+use lib.Dec.{eqb}
 use Rattle.rules.specs.declared.Sizes.{Sizes}
 use Rattle.rules.specs.declared.Task.{Task}
 use Rattle.rules.specs.declared.Decision.{Decision}
 use Rattle.rules.specs.declared.Report.{Report}
 use Rattle.rules.specs.declared.Report.the-variants as report
-use Rattle.rules.specs.Words.{_and_, _or_, scan}
+use Rattle.rules.specs.Words.{scan, scanDown, isScan}
 use Rattle.rules.specs.Tables.{Tables, task, value}
 use Rattle.rules.specs.Stages
 use Rattle.rules.specs.Shape.{fitsOperation}
@@ -22,6 +23,7 @@ use Rattle.rules.specs.Calls.{Call, calls}
 use Rattle.rules.specs.Calls.Call.{step}
 use Rattle.rules.specs.Map.{Pair, lookup, sequential}
 use Rattle.map.proofs.Sequential.{on-absent, on-present}
+use Rattle.laws.proofs.Tests.{or-cases}
 use Rattle.statements.specs.Sound.{Limited}
 use Rattle.statements.specs.Runs.{decides, tablesAt, mapAt, reportAt, taskAt, DecidesAt, Working}
 use Rattle.simulation.specs.Beside.{changeAnswer}
@@ -50,8 +52,8 @@ nine-no-answer : (r : Report) → r ≡ report.Refused 9 → isAnswer r ≡ true
 nine-no-answer r e q = false≢true (ap isAnswer (sym e) ∙ q)
 
 -- a scan's stage decides nothing
-scan-quiet : (z : Sizes) (s : Tables) (t : Task) → fitsOperation (t .operation) (t .stage) ≡ true → t .operation ≡ scan → decides z s t ≡ false
-scan-quiet z s t fits e = rw (eqb-true (t .stage) 22 (rw e at fits)) refl
+scan-quiet : (z : Sizes) (s : Tables) (t : Task) → fitsOperation (t .operation) (t .stage) ≡ true → isScan (t .operation) ≡ true → decides z s t ≡ false
+scan-quiet z s t fits e = ⊎-elim (λ (q : eqb (t .operation) scan ≡ true). rw (eqb-true (t .stage) 22 (rw (eqb-true (t .operation) scan q) at fits)) refl) (λ (q : eqb (t .operation) scanDown ≡ true). rw (eqb-true (t .stage) 23 (rw (eqb-true (t .operation) scanDown q) at fits)) refl) (or-cases _ _ e)
 
 module _ (z : Sizes) (lim : Limited z) (run : ℕ → Call) where
   -- a call that is a step of a task at work does the step
@@ -75,9 +77,9 @@ module _ (z : Sizes) (lim : Limited z) (run : ℕ → Call) where
       gone-on : (t : Task) → task (calls z s (run i) .tables) n ≡ t → t .stage ≢ 0 → Ended
       gone-on t row still = absurd (still (sym (ap (λ (t : Task). t .stage) (row-next z run lim n i ∙ row)) ∙ done))
 
-      by : Steps z s (run i) n → Goes z s n (Stages.decide z s (task s n)) → Ended
-      by b (Goes.on w _ _ _) = gone-on (Stages.decide z s (task s n) .task) (b .row) (w .busy)
-      by b (Goes.turns w _ _ _ _ _) = gone-on (Stages.decide z s (task s n) .task) (b .row) (w .busy)
+      by : Steps z s (run i) n → Goes z s n (Stages.decide z s n (task s n)) → Ended
+      by b (Goes.on w _ _ _) = gone-on (Stages.decide z s n (task s n) .task) (b .row) (w .busy)
+      by b (Goes.turns w _ _ _ _ _) = gone-on (Stages.decide z s n (task s n) .task) (b .row) (w .busy)
       by b (Goes.answers _ e _) = (b .call, inl (ap (λ (o : Outcome). isAnswer (o .report)) (b .done) ∙ e))
       by b (Goes.refuses _ _ _ e) = (b .call, inr (ap (λ (o : Outcome). o .report) (b .done) ∙ e))
 
@@ -93,7 +95,7 @@ module _ (z : Sizes) (lim : Limited z) (run : ℕ → Call) where
       s = tablesAt z run i
 
       x : Decision
-      x = Stages.decide z s (task s n)
+      x = Stages.decide z s n (task s n)
 
       reported : reportAt z run i ≡ x .report
       reported = ap (λ (o : Outcome). o .report) (own-step n i busy e .done)
@@ -117,7 +119,7 @@ module _ (z : Sizes) (lim : Limited z) (run : ℕ → Call) where
     t = task s n
 
     abbrev x : Decision
-    x = Stages.decide z s t
+    x = Stages.decide z s n t
 
     abbrev m : List Pair
     m = mapAt z run (suc i)
@@ -150,7 +152,7 @@ module _ (z : Sizes) (lim : Limited z) (run : ℕ → Call) where
     changed : x .report ≡ changeAnswer (t .operation) → ByChange z run n op k a f j (suc i) (changeAnswer op) → Answered (x .report)
     changed r c = inl (subst (ByChange z run n op k a f j (suc i)) (sym (r ∙ ap changeAnswer (g .started .operation))) c)
 
-    by-end : op ≢ scan → Ends z s n x → Answered (x .report)
+    by-end : isScan op ≡ false → Ends z s n x → Answered (x .report)
     by-end ne (Ends.changes was d u r) = changed r (change-here z lim run n op k a f j i (w .before) (g .started) ne (record { own = e; deciding = d }))
     by-end ne (Ends.tells is d r) = ⊎-elim (λ c. absurd (false≢true (sym (c .0) ∙ is))) (λ c. changed r (change-on z lim run n op k a f j i (c .1))) (g .decided)
     by-end ne (Ends.present was d l q right) = inr (record { never = never was d; moment = suc i; after = g .stepped (inr l); to = le-refl _; right = sym (asked m op k a f t (g .started) ne) ∙ on-present m (t .operation) (t .key) (t .argument) (t .function) (value s (t .old)) there ∙ right m })
@@ -164,15 +166,15 @@ module _ (z : Sizes) (lim : Limited z) (run : ℕ → Call) where
       where
         y : WasAbsent z run n k j (suc i)
         y = g .seen ne gone
-    by-end ne (Ends.scanned q) = absurd (ne (sym (g .started .operation) ∙ q))
+    by-end ne (Ends.scanned q) = absurd (false≢true (sym ne ∙ ap isScan (sym (g .started .operation)) ∙ q))
 
-    answered-by : op ≢ scan → isAnswer (x .report) ≡ true → Goes z s n x → Answered (x .report)
+    answered-by : isScan op ≡ false → isAnswer (x .report) ≡ true → Goes z s n x → Answered (x .report)
     answered-by ne ans (Goes.on v _ _ _) = absurd (answer-ends (x .report) ans (v .quiet))
     answered-by ne ans (Goes.turns v _ _ _ _ _) = absurd (answer-ends (x .report) ans (v .quiet))
     answered-by ne ans (Goes.answers _ _ v) = by-end ne v
     answered-by ne ans (Goes.refuses _ _ _ r) = absurd (nine-no-answer (x .report) r ans)
 
-    pub step-answered : op ≢ scan → isAnswer (reportAt z run (suc i)) ≡ true → Answered (reportAt z run (suc i))
+    pub step-answered : isScan op ≡ false → isAnswer (reportAt z run (suc i)) ≡ true → Answered (reportAt z run (suc i))
     step-answered ne ans = subst Answered (sym reported) (answered-by ne (ap isAnswer (sym reported) ∙ ans) goes)
 
     unserved-by : x .report ≡ report.Refused 9 → Goes z s n x → NeverDecides z run n j (suc i)
@@ -190,16 +192,16 @@ module _ (z : Sizes) (lim : Limited z) (run : ℕ → Call) where
       loud q = false≢true (sym q ∙ d .deciding)
 
       -- it is the first, and no scan's
-      first-by-end : Ends z s n x → NeverDecides z run n j i × (op ≢ scan)
-      first-by-end (Ends.changes was _ u _) = (before was, λ q. u (g .started .operation ∙ q))
+      first-by-end : Ends z s n x → NeverDecides z run n j i × (isScan op ≡ false)
+      first-by-end (Ends.changes was _ u _) = (before was, ap isScan (sym (g .started .operation)) ∙ u)
       first-by-end (Ends.tells _ q _) = absurd (loud q)
       first-by-end (Ends.present _ q _ _ _) = absurd (loud q)
       first-by-end (Ends.absent _ q _ _) = absurd (loud q)
       first-by-end (Ends.scanned q) = absurd (loud (scan-quiet z s t (reached-kept z lim (run-reached z run (suc i)) .tasks n .holds (b .busy) .fits) q))
 
-      first-by : Goes z s n x → NeverDecides z run n j i × (op ≢ scan)
+      first-by : Goes z s n x → NeverDecides z run n j i × (isScan op ≡ false)
       first-by (Goes.on _ _ q _) = absurd (loud q)
-      first-by (Goes.turns _ was _ _ u _) = (before was, λ q. u (g .started .operation ∙ q))
+      first-by (Goes.turns _ was _ _ u _) = (before was, ap isScan (sym (g .started .operation)) ∙ u)
       first-by (Goes.answers _ _ v) = first-by-end v
       first-by (Goes.refuses _ _ q _) = absurd (loud q)
 
@@ -218,7 +220,7 @@ module _ (z : Sizes) (lim : Limited z) (run : ℕ → Call) where
   changes n op k a f j zero w d = absurd (not-suc-le-zero (w .before))
   changes n op k a f j (suc i) w d = step-changes n op k a f j i w (d .own) d
 
-  answered : (n op k a f j i : ℕ) → Working z run n op k a f j i → op ≢ scan → run i ≡ step n → isAnswer (reportAt z run i) ≡ true → ByChange z run n op k a f j i (reportAt z run i) ⊎ ByLooking z run n op k a f j i (reportAt z run i)
+  answered : (n op k a f j i : ℕ) → Working z run n op k a f j i → isScan op ≡ false → run i ≡ step n → isAnswer (reportAt z run i) ≡ true → ByChange z run n op k a f j i (reportAt z run i) ⊎ ByLooking z run n op k a f j i (reportAt z run i)
   answered n op k a f j zero w ne e ans = absurd (not-suc-le-zero (w .before))
   answered n op k a f j (suc i) w ne e ans = step-answered n op k a f j i w e ne ans
 

@@ -14,7 +14,7 @@ use Rattle.rules.specs.declared.Sizes.{Sizes}
 use Rattle.rules.specs.declared.Task.{Task}
 use Rattle.rules.specs.declared.Decision.{Decision}
 use Rattle.rules.specs.declared.Report.{Report}
-use Rattle.rules.specs.Words.{pick, _or_, get, upsert, compute, remove, scan, usesFunction}
+use Rattle.rules.specs.Words.{pick, _or_, get, upsert, compute, remove, scan, scanDown, isScan, usesFunction}
 use Rattle.rules.specs.Tables.{Tables}
 use Rattle.rules.specs.Stages
 use Rattle.rules.specs.Rebalance.{Outcome}
@@ -55,7 +55,7 @@ module _ (m : List Pair) (op k a f : ℕ) where
   unfolding sequential
   kept-numbers = by-test (eqb op get or eqb op remove) (λ e. without (⊎-map (eqb-true op get) (eqb-true op remove) (or-cases _ _ e)) (lookup m k)) (λ e. with-argument e (lookup m k))
 
-  pub asked : (t : Task) → Started op k a f t → op ≢ scan → sequential m (t .operation) (t .key) (t .argument) (t .function) ≡ sequential m op k a f
+  pub asked : (t : Task) → Started op k a f t → isScan op ≡ false → sequential m (t .operation) (t .key) (t .argument) (t .function) ≡ sequential m op k a f
   asked t st ne = rw (st .operation, st .key ne, st .argument, st .function) kept-numbers
 
 -- a task that shows none looks
@@ -87,7 +87,7 @@ module _ (z : Sizes) (lim : Limited z) (run : ℕ → Call) (n op k a f j : ℕ)
     change-on c = record { at = c .at; since = c .since; to = omega (arith, c .to); decides = c .decides; answers = c .answers }
 
     -- at a deciding step the map changes by what the operation was started with
-    module _ (st : Started op k a f (taskAt z run (suc i) n)) (ne : op ≢ scan) where
+    module _ (st : Started op k a f (taskAt z run (suc i) n)) (ne : isScan op ≡ false) where
       abbrev row : Task
       row = taskAt z run (suc i) n
 
@@ -100,7 +100,7 @@ module _ (z : Sizes) (lim : Limited z) (run : ℕ → Call) (n op k a f j : ℕ)
       pub changes-here : n < z .tasks → DecidesAt z run n (suc i) → mapAt z run (suc (suc i)) ≡ sequential map op k a f .map
       changes-here b d = map-next z run (suc i) ∙ ap (λ (c : Call). mapThen z (tablesAt z run (suc i)) c map) (d .own) ∙ rw (lt-ltb n (z .tasks) b, d .deciding) (ap (λ (y : Effect). y .map) same)
 
-    pub change-here : j < suc i → Started op k a f (taskAt z run (suc i) n) → op ≢ scan → DecidesAt z run n (suc i) → ByChange z run n op k a f j (suc i) (changeAnswer op)
+    pub change-here : j < suc i → Started op k a f (taskAt z run (suc i) n) → isScan op ≡ false → DecidesAt z run n (suc i) → ByChange z run n op k a f j (suc i) (changeAnswer op)
     change-here since st ne d =
         record {
           at = suc i;
@@ -127,7 +127,7 @@ module _ (z : Sizes) (lim : Limited z) (run : ℕ → Call) (n op k a f j : ℕ)
       none x since le = omega (arith, e)
 
       first : (past (started z s op k a f) ≡ false) × (looksIn (started z s op k a f .stage) ≡ false) × (looksOld (started z s op k a f .stage) ≡ false)
-      first = by-test (eqb op scan) (λ q. rw q (refl, refl, refl)) (λ q. rw q (refl, refl, refl))
+      first = by-test (eqb op scan) (λ q. rw q (refl, refl, refl)) (λ q. rw q (by-test (eqb op scanDown) (λ p. rw p (refl, refl, refl)) (λ p. rw p (refl, refl, refl))))
 
       blind : (looksIn (started z s op k a f .stage) ≡ true) ⊎ (looksOld (started z s op k a f .stage) ≡ true) → ⊥
       blind = ⊎-elim (λ q. false≢true (sym (first .1) ∙ q)) (λ q. false≢true (sym (first .2) ∙ q))
@@ -139,11 +139,11 @@ module _ (z : Sizes) (lim : Limited z) (run : ℕ → Call) (n op k a f j : ℕ)
     abbrev t : Task
     t = taskAt z run (suc i) n
 
-    is-key : op ≢ scan → t .key ≡ k
+    is-key : isScan op ≡ false → t .key ≡ k
     is-key = g .started .key
 
     -- what it has seen was seen before, or the key is absent now
-    seen-on : op ≢ scan → Stepped z run n j (suc (suc i)) → Gone z s t ⊎ AbsentIn z (tablesAt z run (suc (suc i))) (t .key) → WasAbsent z run n k j (suc (suc i))
+    seen-on : isScan op ≡ false → Stepped z run n j (suc (suc i)) → Gone z s t ⊎ AbsentIn z (tablesAt z run (suc (suc i))) (t .key) → WasAbsent z run n k j (suc (suc i))
     seen-on ne after (inl y) = was-later (suc i) (g .seen ne y)
     seen-on ne after (inr y) = record { moment = suc (suc i); after = after; to = le-refl _; absent = absent-at (suc (suc i)) (subst (AbsentIn z (tablesAt z run (suc (suc i)))) (is-key ne) y) }
 
@@ -167,7 +167,7 @@ module _ (z : Sizes) (lim : Limited z) (run : ℕ → Call) (n op k a f j : ℕ)
     -- ---- a step of the task
     module _ (b : Steps z s (run (suc i)) n) where
       abbrev x : Decision
-      x = Stages.decide z s t
+      x = Stages.decide z s n t
 
       pub goes : Goes z s n x
       goes = decides-goes z lim s (run-reached z run (suc i)) n (b .busy)
@@ -186,13 +186,13 @@ module _ (z : Sizes) (lim : Limited z) (run : ℕ → Call) (n op k a f j : ℕ)
 
       -- what it was started with stays
       onward : Onward t x → Started op k a f (x .task)
-      onward w = record { operation = w .operation ∙ g .started .operation; function = w .function ∙ g .started .function; argument = w .argument ∙ g .started .argument; key = λ ne. w .key (λ q. ne (sym (g .started .operation) ∙ q)) ∙ is-key ne }
+      onward w = record { operation = w .operation ∙ g .started .operation; function = w .function ∙ g .started .function; argument = w .argument ∙ g .started .argument; key = λ ne. w .key (ap isScan (g .started .operation) ∙ ne) ∙ is-key ne }
 
       pub undecided : past t ≡ false → NeverDecides z run n j i
       undecided e = ⊎-elim (λ w. w .1) (λ w. absurd (false≢true (sym e ∙ w .0))) (g .decided)
 
-      unlike : t .operation ≢ scan → op ≢ scan
-      unlike ne q = ne (g .started .operation ∙ q)
+      unlike : isScan (t .operation) ≡ false → isScan op ≡ false
+      unlike ne = ap isScan (sym (g .started .operation)) ∙ ne
 
       steps-ghost : x .task .stage ≢ 0 → GhostOf (suc i) (x .task)
       steps-ghost busy = go goes

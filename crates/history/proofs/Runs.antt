@@ -10,15 +10,16 @@ use native.Mathlib.Omega.{arith}
 use lib.Dec.{eqb, ltb, leb}
 use lib.ListN.{getD, set, List·getD-eq-default}
 use lib.Seq.{getD-set-same, getD-set-other}
-use borrow.Author.Tests.{eqb-true, eqb-false, ltb-false, leb-true, leb-false, eq-eqb}
+use borrow.Author.Tests.{eqb-true, eqb-false, ltb-false, leb-true, leb-false}
 use Rattle.rules.specs.declared.Sizes.{Sizes}
+use Rattle.rules.specs.declared.EntryNo.{EntryNo}
 use Rattle.rules.specs.declared.Task.{Task}
 use Rattle.rules.specs.declared.Decision.{Decision}
 use Rattle.rules.specs.declared.Report.{Report}
 use Rattle.rules.specs.declared.Report.the-variants as report
-use Rattle.rules.specs.Words.{_and_, _or_, usesFunction, scan}
+use Rattle.rules.specs.Words.{_and_, _or_, usesFunction, isScan}
 use Rattle.rules.specs.Told.{told}
-use Rattle.rules.specs.Tables.{Tables, idleTask, task, putTask}
+use Rattle.rules.specs.Tables.{Tables, idleTask, task, putTask, stack}
 use Rattle.rules.specs.Stages
 use Rattle.rules.specs.Rebalance.{Outcome, begins}
 use Rattle.rules.specs.Calls.{Call, started, starts, steps, does, calls}
@@ -30,7 +31,7 @@ use Rattle.facts.specs.Reached.{Reached}
 use Rattle.statements.specs.Runs.{mapThen, tablesAt, mapAt, taskAt, Working}
 use Rattle.simulation.specs.Beside.{Beside}
 use Rattle.facts.proofs.Fresh.{getD-all}
-use Rattle.facts.proofs.Applying.{applied-by}
+use Rattle.facts.proofs.Applying.{Applied, applied-by}
 use Rattle.facts.proofs.Ends.{decides-fine}
 use Rattle.facts.proofs.Reaching.{reached-kept, run-reached}
 use Rattle.holds.proofs.Shaped.{calls-does}
@@ -74,23 +75,23 @@ module _ (z : Sizes) (lim : Limited z) (s : Tables) (r : Reached z s) where
   put-row : (n : ℕ) (t : Task) → n < z .tasks → getD (set (s .tasks) n t) n idleTask ≡ t
   put-row n t b = getD-set-same (s .tasks) n t idleTask (rw (kept .tasks-sized) b)
 
-  step-applied : (n : ℕ) → Stages.apply z (putTask s n (Stages.decide z s (task s n) .task)) (Stages.decide z s (task s n) .write) .tasks ≡ set (s .tasks) n (Stages.decide z s (task s n) .task)
-  step-applied n = applied-by z lim (putTask s n (Stages.decide z s (task s n) .task)) (kept .tables) (Stages.decide z s (task s n) .write) (decides-fine z lim s (kept .tables) (task s n) (kept .tasks n) .allowed) .tasks
+  step-applied : (n : ℕ) → Applied z (Stages.putOwn z s n (Stages.decide z s n (task s n) .task)) (Stages.apply z (Stages.putOwn z s n (Stages.decide z s n (task s n) .task)) (Stages.decide z s n (task s n) .write))
+  step-applied n = applied-by z lim (Stages.putOwn z s n (Stages.decide z s n (task s n) .task)) (kept .tables) (Stages.decide z s n (task s n) .write) (decides-fine z lim s (kept .tables) (task s n) (kept .tasks n) n .allowed)
 
   module _ (n : ℕ) where
     -- the same for what the call does, and then of the call
     abbrev TurnBy : Call → Outcome → Type 0
     TurnBy c o = (e : calls z s c ≡ o) → Turn z s c n
 
-    still : (c : Call) (o : Outcome) → getD (o .tables .tasks) n idleTask ≡ task s n → (c ≡ step n → task s n .stage ≡ 0) → ((op k a f : ℕ) → c ≡ start n op k a f → o .report ≢ report.Moved) → TurnBy c o
-    still c o same p q e = Turn.rests (record { row = ap (λ (x : Outcome). task (x .tables) n) e ∙ same; unstepped = p; unstarted = λ op k a f i r. q op k a f i (sym (ap (λ (x : Outcome). x .report) e) ∙ r) })
+    still : (c : Call) (o : Outcome) → getD (o .tables .tasks) n idleTask ≡ task s n → getD (o .tables .stacks) n [] ≡ stack s n → (c ≡ step n → task s n .stage ≡ 0) → ((op k a f : ℕ) → c ≡ start n op k a f → o .report ≢ report.Moved) → TurnBy c o
+    still c o same stands p q e = Turn.rests (record { row = ap (λ (x : Outcome). task (x .tables) n) e ∙ same; stack = ap (λ (x : Outcome). stack (x .tables) n) e ∙ stands; unstepped = p; unstarted = λ op k a f i r. q op k a f i (sym (ap (λ (x : Outcome). x .report) e) ∙ r) })
 
     start-turn : (m op k a f : ℕ) → TurnBy (start m op k a f) (starts z s m op k a f)
     start-turn m op k a f =
         picked T (leb (z .tasks) m) (λ _. refused 1)
         (λ b. picked T (eqb (task s m .stage) 0)
-        (λ i. picked T (ltb op 1 or ltb 7 op or (usesFunction op and (ltb f 1 or ltb 3 f))) (λ _. refused 5)
-        (λ ok. picked T (eqb op scan and ltb a k) (λ _. refused 4) (λ low. elim (ℕ-discrete n m) [ yes e ↦ own e (leb-false _ _ b) (eqb-true _ _ i) ok low | no ne ↦ other ne ])))
+        (λ i. picked T (ltb op 1 or ltb 8 op or (usesFunction op and (ltb f 1 or ltb 3 f))) (λ _. refused 5)
+        (λ ok. picked T (isScan op and ltb a k) (λ _. refused 4) (λ low. elim (ℕ-discrete n m) [ yes e ↦ own e (leb-false _ _ b) (eqb-true _ _ i) ok low | no ne ↦ other ne ])))
         (λ _. refused 2))
       where
         T : Outcome → Type 0
@@ -100,21 +101,21 @@ module _ (z : Sizes) (lim : Limited z) (s : Tables) (r : Reached z s) where
         not-step e = absurd (step-not-start (sym e))
 
         refused : (why : ℕ) → T (record { tables = s; report = report.Refused why })
-        refused why = still (start m op k a f) _ refl not-step (λ _ _ _ _ _. refused-not-moved why)
+        refused why = still (start m op k a f) _ refl refl not-step (λ _ _ _ _ _. refused-not-moved why)
 
         other : n ≢ m → T (record { tables = putTask s m (started z s op k a f); report = report.Moved })
-        other ne = still (start m op k a f) _ (getD-set-other (s .tasks) m n (started z s op k a f) idleTask ne) not-step (λ _ _ _ _ e. absurd (ne (sym (part e 1))))
+        other ne = still (start m op k a f) _ (getD-set-other (s .tasks) m n (started z s op k a f) idleTask ne) refl not-step (λ _ _ _ _ e. absurd (ne (sym (part e 1))))
 
-        own : n ≡ m → m < z .tasks → task s m .stage ≡ 0 → (ltb op 1 or ltb 7 op or (usesFunction op and (ltb f 1 or ltb 3 f))) ≡ false → (eqb op scan and ltb a k) ≡ false → T (record { tables = putTask s m (started z s op k a f); report = report.Moved })
+        own : n ≡ m → m < z .tasks → task s m .stage ≡ 0 → (ltb op 1 or ltb 8 op or (usesFunction op and (ltb f 1 or ltb 3 f))) ≡ false → (isScan op and ltb a k) ≡ false → T (record { tables = putTask s m (started z s op k a f); report = report.Moved })
         own e b was ok low q =
             Turn.begins op k a f (
             record {
               call = ap (λ (m : ℕ). start m op k a f) (sym e);
               numbered = rw e b;
               was = rw e was;
-              known = (ltb-false op 1 (or-left (ltb op 1) _ ok), ltb-false 7 op (or-left (ltb 7 op) _ (or-right (ltb op 1) _ ok)));
-              function = λ u. let tests = rw u at (or-right (ltb 7 op) (usesFunction op and (ltb f 1 or ltb 3 f)) (or-right (ltb op 1) (ltb 7 op or (usesFunction op and (ltb f 1 or ltb 3 f))) ok)) in (ltb-false f 1 (or-left (ltb f 1) (ltb 3 f) tests), ltb-false 3 f (or-right (ltb f 1) (ltb 3 f) tests));
-              ordered = λ i. ltb-false a k (rw (eq-eqb op scan i) at low);
+              known = (ltb-false op 1 (or-left (ltb op 1) _ ok), ltb-false 8 op (or-left (ltb 8 op) _ (or-right (ltb op 1) _ ok)));
+              function = λ u. let tests = rw u at (or-right (ltb 8 op) (usesFunction op and (ltb f 1 or ltb 3 f)) (or-right (ltb op 1) (ltb 8 op or (usesFunction op and (ltb f 1 or ltb 3 f))) ok)) in (ltb-false f 1 (or-left (ltb f 1) (ltb 3 f) tests), ltb-false 3 f (or-right (ltb f 1) (ltb 3 f) tests));
+              ordered = λ i. ltb-false a k (rw i at low);
               done = rw e q;
               row = ap (λ (x : Outcome). task (x .tables) n) q ∙ rw e (put-row m (started z s op k a f) b);
             }
@@ -122,8 +123,8 @@ module _ (z : Sizes) (lim : Limited z) (s : Tables) (r : Reached z s) where
 
     step-turn : (m : ℕ) → TurnBy (step m) (steps z s m)
     step-turn m =
-        picked T (leb (z .tasks) m) (λ b. still (step m) _ refl (λ e. past-idle n (rw (step-task e) at (leb-true (z .tasks) m b))) started-not)
-        (λ b. picked T (eqb (task s m .stage) 0) (λ i. still (step m) _ refl (λ e. rw (step-task e) at (eqb-true (task s m .stage) 0 i)) started-not)
+        picked T (leb (z .tasks) m) (λ b. still (step m) _ refl refl (λ e. past-idle n (rw (step-task e) at (leb-true (z .tasks) m b))) started-not)
+        (λ b. picked T (eqb (task s m .stage) 0) (λ i. still (step m) _ refl refl (λ e. rw (step-task e) at (eqb-true (task s m .stage) 0 i)) started-not)
         (λ i. elim (ℕ-discrete n m) [ yes e ↦ own e (leb-false _ _ b) (eqb-false _ _ i) | no ne ↦ other ne ]))
       where
         T : Outcome → Type 0
@@ -133,23 +134,23 @@ module _ (z : Sizes) (lim : Limited z) (s : Tables) (r : Reached z s) where
         started-not op k a f e = absurd (step-not-start e)
 
         x : Decision
-        x = Stages.decide z s (task s m)
+        x = Stages.decide z s m (task s m)
 
         o : Outcome
-        o = record { tables = Stages.apply z (putTask s m (x .task)) (x .write); report = x .report }
+        o = record { tables = Stages.apply z (Stages.putOwn z s m (x .task)) (x .write); report = x .report }
 
         other : n ≢ m → T o
-        other ne = still (step m) o (ap (λ (ts : List Task). getD ts n idleTask) (step-applied m) ∙ getD-set-other (s .tasks) m n (x .task) idleTask ne) (λ e. absurd (ne (sym (step-task e)))) started-not
+        other ne = still (step m) o (ap (λ (ts : List Task). getD ts n idleTask) (step-applied m .tasks) ∙ getD-set-other (s .tasks) m n (x .task) idleTask ne) (ap (λ (ss : List (List EntryNo)). getD ss n []) (step-applied m .stacks) ∙ getD-set-other (s .stacks) m n (Stages.stackThen z s (task s m) m) [] ne) (λ e. absurd (ne (sym (step-task e)))) started-not
 
         own : n ≡ m → m < z .tasks → task s m .stage ≢ 0 → T o
-        own e b busy q = Turn.steps (record { call = ap step (sym e); numbered = rw e b; busy = rw e busy; done = rw e q; row = ap (λ (x : Outcome). task (x .tables) n) q ∙ rw e (ap (λ (ts : List Task). getD ts m idleTask) (step-applied m) ∙ put-row m (x .task) b) })
+        own e b busy q = Turn.steps (record { call = ap step (sym e); numbered = rw e b; busy = rw e busy; done = rw e q; row = ap (λ (x : Outcome). task (x .tables) n) q ∙ rw e (ap (λ (ts : List Task). getD ts m idleTask) (step-applied m .tasks) ∙ put-row m (x .task) b); stack = ap (λ (x : Outcome). stack (x .tables) n) q ∙ rw e (ap (λ (ss : List (List EntryNo)). getD ss m []) (step-applied m .stacks) ∙ getD-set-same (s .stacks) m (Stages.stackThen z s (task s m) m) [] (rw (kept .stacks-sized) b)) })
 
     does-turn : (c : Call) → TurnBy c (does z s c)
     unfolding does
     does-turn (start m op k a f) = start-turn m op k a f
     does-turn (step m) = step-turn m
-    does-turn (begin k) = still (begin k) (begins z s k) (ap (λ (ts : List Task). getD ts n idleTask) (begin-tasks z s k .0)) (λ e. absurd (apart refl e)) (λ _ _ _ _ e. absurd (apart refl e))
-    does-turn rebalance = still rebalance (does z s rebalance) (ap (λ (ts : List Task). getD ts n idleTask) (rebalance-tasks z s .0)) (λ e. absurd (apart refl e)) (λ _ _ _ _ e. absurd (apart refl e))
+    does-turn (begin k) = still (begin k) (begins z s k) (ap (λ (ts : List Task). getD ts n idleTask) (begin-tasks z s k .0)) (ap (λ (ss : List (List EntryNo)). getD ss n []) (begin-tasks z s k .3)) (λ e. absurd (apart refl e)) (λ _ _ _ _ e. absurd (apart refl e))
+    does-turn rebalance = still rebalance (does z s rebalance) (ap (λ (ts : List Task). getD ts n idleTask) (rebalance-tasks z s .0)) (ap (λ (ss : List (List EntryNo)). getD ss n []) (rebalance-tasks z s .3)) (λ e. absurd (apart refl e)) (λ _ _ _ _ e. absurd (apart refl e))
 
   pub turns : (c : Call) (n : ℕ) → Turn z s c n
   turns c n = does-turn n c (calls-does z lim s r c)

@@ -2,7 +2,7 @@
 use Prim.Native.Nat.{ℕ, _+_, _/_, _<_}
 use mathlib.Core.Path.{_≡_, refl, sym, ap, _∙_, subst}
 use mathlib.Core.Logic.{_⊎_, inl, inr, ⊎-elim, ⊎-map, _≢_}
-use mathlib.Core.Bool.{true}
+use mathlib.Core.Bool.{true, false≢true}
 use mathlib.Core.List.{List, List·Memᴰ}
 use mathlib.Core.Option.{Option, none, some, Option·none-ne-some}
 use native.Mathlib.Decide.{ℕ-discrete}
@@ -16,13 +16,14 @@ use Rattle.rules.specs.declared.Task.{Task}
 use Rattle.rules.specs.declared.Entry.{Entry}
 use Rattle.rules.specs.declared.ChunkNo.{ChunkNo}
 use Rattle.rules.specs.declared.EntryNo.{EntryNo}
-use Rattle.rules.specs.Words.{pick, noChunk, _and_, _or_, live, retired, usesFunction, scan, idle, toDrain, toCopy, toSwap, toRelease}
+use Rattle.rules.specs.Words.{pick, noChunk, _and_, _or_, live, retired, usesFunction, scanDown, isScan, idle, toDrain, toCopy, toSwap, toRelease}
 use Rattle.rules.specs.Tables.{Tables, emptyChunk, withTasks, withDirectory, withEntries, chunkAt, chunk, putChunk, entryAt, entry, mark, task}
 use Rattle.rules.specs.Walks.{linked, InRange}
 use Rattle.rules.specs.Stages
 use Rattle.rules.specs.Rebalance.{Outcome, unusedCount, unusedFrom, publishedOn, heldChunk, namingFrom, at, clears, copies, releases, rebalanceDoes}
 use Rattle.rules.specs.Calls.{Call, starts, steps, does, calls}
 use Rattle.rules.specs.Calls.Call.{start, step, begin, rebalance}
+use Rattle.rules.specs.Shape.{fitsOperation}
 use Rattle.laws.proofs.Tests.{picked, or-cases}
 use Rattle.views.specs.Copies.{filled}
 use Rattle.views.proofs.Copies.{fill-is, clears-is}
@@ -40,7 +41,7 @@ use Rattle.handles.proofs.Keys.{reached-owned}
 use Rattle.holds.proofs.Holding.{reached-held}
 use Rattle.holds.proofs.Marks.{reached-marked}
 use Rattle.holds.proofs.Unlinked.{reached-unlinked}
-use Rattle.simulation.specs.Named.{presentAt, NamedIn, LiveNamed}
+use Rattle.simulation.specs.Named.{presentAt, NamedIn, LiveNamed, PresentBy}
 use Rattle.simulation.proofs.Rows.{RowKept, frame}
 use Rattle.simulation.proofs.Keeping.{reached-copied, kept-to}
 use Rattle.simulation.proofs.Moving.{begin-moves, rebalance-moves}
@@ -54,8 +55,8 @@ module _ (z : Sizes) (lim : Limited z) (s : Tables) (r : Reached z s) where
   kept = reached-kept z lim r
 
   -- a live chunk whose range has a key shows it where it is present
-  pub live-absent : (c : ChunkNo) (k : ℕ) → Live z s c → InRange z (s .chunks) c k → (ShownBy z s c k → ⊥) → AbsentIn z s k
-  live-absent c k l range gone v p = gone (record { handle = p .handle; inside = p .inside; named = rw here at (p .named .named); undeleted = p .undeleted })
+  pub live-shown : (c : ChunkNo) (k v : ℕ) → Live z s c → InRange z (s .chunks) c k → PresentBy z s k v → ShownBy z s c k
+  live-shown c k v l range p = record { handle = p .handle; inside = p .inside; named = rw here at (p .named .named); undeleted = p .undeleted }
     where
       alive : Live z s (p .named .chunk)
       alive = record { numbered = p .named .numbered; isLive = p .named .isLive }
@@ -68,6 +69,9 @@ module _ (z : Sizes) (lim : Limited z) (s : Tables) (r : Reached z s) where
 
       here : p .named .chunk ≡ c
       here = only z lim s kept k (p .named .chunk) alive within ∙ sym (only z lim s kept k c l range)
+
+  pub live-absent : (c : ChunkNo) (k : ℕ) → Live z s c → InRange z (s .chunks) c k → (ShownBy z s c k → ⊥) → AbsentIn z s k
+  live-absent c k l range gone v p = gone (live-shown c k v l range p)
 
   -- a handle that a live chunk names and that is deleted makes its key absent
   pub marked-absent : (h k : ℕ) → h < z .handles → LiveNamed z (s .chunks) (s .entries) h k → getD (s .marks) h 0 ≢ 0 → AbsentIn z s k
@@ -121,7 +125,7 @@ module _ (z : Sizes) (lim : Limited z) (s : Tables) (r : Reached z s) where
   start-by P same put n op k a f =
       picked O (leb (z .tasks) n) (λ _. same)
       (λ _. picked O (eqb (task s n .stage) 0)
-      (λ _. picked O (ltb op 1 or ltb 7 op or (usesFunction op and (ltb f 1 or ltb 3 f))) (λ _. same) (λ _. picked O (eqb op scan and ltb a k) (λ _. same) (λ _. put _)))
+      (λ _. picked O (ltb op 1 or ltb 8 op or (usesFunction op and (ltb f 1 or ltb 3 f))) (λ _. same) (λ _. picked O (isScan op and ltb a k) (λ _. same) (λ _. put _)))
       (λ _. same))
     where
       O : Outcome → Type 0
@@ -161,7 +165,7 @@ module _ (z : Sizes) (lim : Limited z) (s : Tables) (r : Reached z s) where
         not-there q p e = omega (arith, sym (same-status z lim s k₀ n f) ∙ q, ap (λ (c : ChunkNo). chunk s c .status) e ∙ reached-held z lim r .publisher-live n p .isLive)
 
         rows : chunkAt (s′ z lim s k₀ n .chunks) f .status ≡ retired → (e : EntryNo) → e .0 < z .entries → RowKept z (entryAt z (s .entries) f e) (entryAt z (s′ z lim s k₀ n .entries) f e)
-        rows q e j = frame z lim s k₀ (set (s .tasks) n (Stages.decide z s (task s n) .task)) n (acts z lim s k₀ n) (allowed z lim s k₀ n) f e (record { chunk = b; entry = j }) (not-there q)
+        rows q e j = frame z lim s k₀ (set (s .tasks) n (Stages.decide z s n (task s n) .task)) _ n (acts z lim s k₀ n) (allowed z lim s k₀ n) f e (record { chunk = b; entry = j }) (not-there q)
 
     -- no copy and no release leaves one
     early : (x : Tables) (m : ℕ) → x .directory .stage ≡ m → m ≢ toRelease → {A : Type 0} → Kept z x → chunkAt (x .chunks) f .status ≡ retired → A
@@ -240,12 +244,23 @@ module _ (z : Sizes) (lim : Limited z) (s : Tables) (r : Reached z s) where
           | no ne ↦ inr (deleted (v .handle) k (v .inside) (v .undeleted) (reached-lively z lim r .undeleted-live (v .handle) k (v .inside) (v .undeleted) (under z (s .entries) f b (v .named))) ne)
         ]
 
+    -- what a chunk in use showed it shows where the key is present now
+    pub shown-stays : (f : ChunkNo) (k v : ℕ) → f .0 < z .chunks → (chunk s₁ f .status ≡ retired) ⊎ ((chunk s₁ f .status ≡ live) × InRange z (s₁ .chunks) f k) → ShownBy z s f k → PresentBy z s₁ k v → ShownBy z s₁ f k
+    shown-stays f k v b alive w p = ⊎-elim (λ q. ⊎-elim (λ y. y) (λ a. absurd (a v p)) (shown-on f k b q w)) (λ q. live-shown z lim s₁ r₁ f k v (record { numbered = b; isLive = q .0 }) (q .1) p) alive
+
     pub gone-back : task s₁ n ≡ t → Gone z s₁ t → Gone z s t ⊎ AbsentIn z s₁ (t .key)
     gone-back same (Gone.old q d) = ⊎-map (λ ne. Gone.old q ne) (λ a. a) (old-back (holds-old z lim s r n q) d)
-    gone-back same (Gone.chunk q gone) = ⊎-elim (λ w. by-present w (presentAt z s₁ (t .key)) refl) (λ w. inr (live-absent z lim s₁ r₁ (t .chunk) (t .key) (record { numbered = b; isLive = w .0 }) (w .1) gone)) (subst (λ (y : Task). y .chunk .0 < z .chunks → ChunkOfKey z (s₁ .chunks) (y .chunk) (y .key)) same (k₁ .tasks n .chunk-of-key) b)
+    gone-back same (Gone.chunk q gone) = ⊎-elim (λ w. by-present w (presentAt z s₁ (t .key)) refl) (λ w. inr (live-absent z lim s₁ r₁ (t .chunk) (t .key) (record { numbered = b; isLive = w .0 }) (w .1 not-down) gone)) (subst (λ (y : Task). y .chunk .0 < z .chunks → ChunkOfKey z (s₁ .chunks) (y .operation) (y .chunk) (y .key)) same (k₁ .tasks n .chunk-of-key) b)
       where
         b : t .chunk .0 < z .chunks
         b = holds-chunk z lim s r n q
+
+        -- a scan down does not look for its key
+        not-down : t .operation ≢ scanDown
+        not-down e = absurd (false≢true (ap looksIn (sym (eqb-true (t .stage) 23 (ap (λ (op : ℕ). fitsOperation op (t .stage)) (sym e) ∙ k₀ .tasks n .holds (busy q) .fits))) ∙ q))
+          where
+            busy : looksIn (t .stage) ≡ true → t .stage ≢ 0
+            busy q e = false≢true (ap looksIn (sym e) ∙ q)
 
         by-present : chunk s₁ (t .chunk) .status ≡ retired → (o : Option ℕ) → presentAt z s₁ (t .key) ≡ o → Gone z s t ⊎ AbsentIn z s₁ (t .key)
         by-present w none e = inr (λ v p. Option·none-ne-some v (sym e ∙ shown-at z lim s₁ k₁ (reached-unlinked z lim r₁) (t .key) v p))

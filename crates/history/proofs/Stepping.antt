@@ -18,9 +18,9 @@ use Rattle.rules.specs.declared.Write.{Write}
 use Rattle.rules.specs.declared.Write.the-variants as write
 use Rattle.rules.specs.declared.Report.{Report}
 use Rattle.rules.specs.declared.Report.the-variants as report
-use Rattle.rules.specs.Words.{pick, _and_, _or_, noEntry, noHandle, get, put, putIfAbsent, upsert, compute, remove, scan, inserts}
-use Rattle.rules.specs.Tables.{Tables, chunk, entry, mark, task, putTask}
-use Rattle.rules.specs.Walks.{locate, find, lowestFree, firstPresent}
+use Rattle.rules.specs.Words.{pick, _and_, _or_, noEntry, noHandle, get, put, putIfAbsent, upsert, compute, remove, isScan, inserts}
+use Rattle.rules.specs.Tables.{Tables, chunk, entry, mark, task}
+use Rattle.rules.specs.Walks.{locate, find, lowestFree, firstPresent, undeleted}
 use Rattle.rules.specs.Stages
 use Rattle.rules.specs.Map.{Pair, effect, onAbsent}
 use Rattle.laws.proofs.EachStage.{each-stage}
@@ -54,6 +54,10 @@ absent-answer op k a f none-in m = by-test (eqb op get) (λ g. rw g refl) (λ g.
     other : (n : ℕ) → inserts n ≡ true → eqb op n ≡ false
     other n yes-in = ne-eqb op n (λ e. false≢true (sym none-in ∙ ap inserts e ∙ yes-in))
 
+not-true : (b : Bool) → not b ≡ true → b ≡ false
+not-true true h = absurd (false≢true h)
+not-true false h = refl
+
 module _ (z : Sizes) (lim : Limited z) (s : Tables) (r : Reached z s) (n : ℕ) where
   abbrev t : Task
   t = task s n
@@ -68,7 +72,7 @@ module _ (z : Sizes) (lim : Limited z) (s : Tables) (r : Reached z s) (n : ℕ) 
   holds-at = holding z (s .chunks) (s .entries) t (kept .tasks n)
 
   -- what every operation that fits the stage passes
-  passes : (m : ℕ) (p : ℕ → Bool) → throughout 8 (λ op. implies (fitsOperation op m) (p op)) ≡ true → t .stage ≡ m → m ≢ 0 → p (t .operation) ≡ true
+  passes : (m : ℕ) (p : ℕ → Bool) → throughout 9 (λ op. implies (fitsOperation op m) (p op)) ≡ true → t .stage ≡ m → m ≢ 0 → p (t .operation) ≡ true
   passes m p all e ne = fits-test m p all (t .operation) (rw e at (holds-at m e ne .fits))
 
   -- ---- whether it has decided, and whether it does
@@ -104,7 +108,7 @@ module _ (z : Sizes) (lim : Limited z) (s : Tables) (r : Reached z s) (n : ℕ) 
     away st q ne quiet = goes st q (or-left (eqb m 0) (looksIn m or looksOld m) ne) quiet (nowhere (goesBy t m c e o h p w wr rep) (or-right (eqb m 0) (looksIn m or looksOld m) ne))
 
     -- to one past the deciding step
-    turning : past t ≡ false → past (Stages.goesTo t m c e o h p w) ≡ true → decides z s t ≡ true → t .operation ≢ scan → (eqb m 0 or (looksIn m or looksOld m)) ≡ false → ending rep ≡ false → By (goesBy t m c e o h p w wr rep)
+    turning : past t ≡ false → past (Stages.goesTo t m c e o h p w) ≡ true → decides z s t ≡ true → isScan (t .operation) ≡ false → (eqb m 0 or (looksIn m or looksOld m)) ≡ false → ending rep ≡ false → By (goesBy t m c e o h p w wr rep)
     turning was is d u ne quiet = Goes.turns (onward (or-left (eqb m 0) (looksIn m or looksOld m) ne) quiet) was is d u (nowhere (goesBy t m c e o h p w wr rep) (or-right (eqb m 0) (looksIn m or looksOld m) ne))
 
     -- with the same handle in hand
@@ -122,11 +126,11 @@ module _ (z : Sizes) (lim : Limited z) (s : Tables) (r : Reached z s) (n : ℕ) 
   ends-absent st g none-in = Goes.answers refl (picked (λ (v : Report). isAnswer v ≡ true) (eqb (t .operation) get) (λ _. refl) (λ _. refl)) (Ends.absent (st .0) (st .1) g (absent-answer (t .operation) (t .key) (t .argument) (t .function) none-in))
 
   -- ---- 1 and 16
-  -- a row put among the tasks leaves what is shown and what is present
-  shown-put : (y : Task) {c : ChunkNo} {k : ℕ} → ShownBy z s c k → ShownBy z (putTask s n y) c k
+  -- a task's own record put among the others leaves what is shown and what is present
+  shown-put : (y : Task) {c : ChunkNo} {k : ℕ} → ShownBy z s c k → ShownBy z (Stages.putOwn z s n y) c k
   shown-put y v = record { handle = v .handle; inside = v .inside; named = v .named; undeleted = v .undeleted }
 
-  present-put : (y : Task) {k v : ℕ} → PresentBy z (putTask s n y) k v → PresentBy z s k v
+  present-put : (y : Task) {k v : ℕ} → PresentBy z (Stages.putOwn z s n y) k v → PresentBy z s k v
   present-put y p = record { handle = p .handle; inside = p .inside; named = p .named; undeleted = p .undeleted; valued = p .valued }
 
   locates-goes : (t .stage ≡ 1) ⊎ (t .stage ≡ 16) → By (Stages.locates z s t)
@@ -191,8 +195,8 @@ module _ (z : Sizes) (lim : Limited z) (s : Tables) (r : Reached z s) (n : ℕ) 
         (λ _. picked (λ m. By (Stages.moves (Stages.keeps t m) write.Nothing)) (inserts (t .operation)) (λ _. away st refl refl refl) (λ _. still st refl refl refl (rw e refl) refl refl)))
 
   module _ (e : t .stage ≡ 5) where
-    unscanned : t .operation ≢ scan
-    unscanned q = false≢true (rw q at (passes 5 (λ op. not (eqb op scan)) refl e (omega arith)))
+    unscanned : isScan (t .operation) ≡ false
+    unscanned = not-true _ (passes 5 (λ op. not (isScan op)) refl e (omega arith))
 
     -- the operations that reach 5 and are neither put nor remove
     answers-five : eqb (t .operation) remove ≡ false → eqb (t .operation) put ≡ false → pick (eqb (t .operation) compute) report.True report.Done ≡ changeAnswer (t .operation)
@@ -238,8 +242,8 @@ module _ (z : Sizes) (lim : Limited z) (s : Tables) (r : Reached z s) (n : ℕ) 
       not-yet : t .swapped ≡ 0
       not-yet = eqb-true _ _ (holds-at 11 e (omega arith) .swapped)
 
-      unscanned : t .operation ≢ scan
-      unscanned q = false≢true (rw q at (passes 11 (λ op. not (eqb op scan)) refl e (omega arith)))
+      unscanned : isScan (t .operation) ≡ false
+      unscanned = not-true _ (passes 11 (λ op. not (isScan op)) refl e (omega arith))
 
   clears-goes : (t .stage ≡ 14) ⊎ (t .stage ≡ 20) → By (Stages.swaps z s t noHandle)
   clears-goes (inl e) = let st = stands 14 e refl refl in rw e (picked By (Stages.stillNames z s t) (λ _. still st refl refl refl (rw e refl) refl refl) (λ _. still st refl refl refl (rw e refl) refl refl))
@@ -271,7 +275,7 @@ module _ (z : Sizes) (lim : Limited z) (s : Tables) (r : Reached z s) (n : ℕ) 
 
   -- ---- 17, 18 and 21
   -- a remove that has set its mark answers true
-  removed : (m : ℕ) → t .stage ≡ m → throughout 8 (λ op. implies (fitsOperation op m) (eqb op remove)) ≡ true → m ≢ 0 → Stands true → By (Stages.finishes write.Nothing report.True)
+  removed : (m : ℕ) → t .stage ≡ m → throughout 9 (λ op. implies (fitsOperation op m) (eqb op remove)) ≡ true → m ≢ 0 → Stands true → By (Stages.finishes write.Nothing report.True)
   removed m e all ne st = Goes.answers refl refl (Ends.tells (st .0) (st .1) (rw (eqb-true (t .operation) remove (passes m (λ op. eqb op remove) all e ne)) refl))
 
   finds-again-goes : t .stage ≡ 17 → By (Stages.findsAgain z s t)
@@ -290,11 +294,24 @@ module _ (z : Sizes) (lim : Limited z) (s : Tables) (r : Reached z s) (n : ℕ) 
       st : Stands false
       st = stands 22 e refl refl
 
-      is-scan : t .operation ≡ scan
-      is-scan = eqb-true (t .operation) scan (passes 22 (λ op. eqb op scan) refl e (omega arith))
+      is-scan : isScan (t .operation) ≡ true
+      is-scan = passes 22 isScan refl e (omega arith)
 
       on-from : (k : ℕ) (rep : Report) → ending rep ≡ false → By (record { task = Stages.cursorAt t k; write = write.Nothing; report = rep })
-      on-from k rep quiet = Goes.on (record { operation = refl; function = refl; argument = refl; key = λ ne. absurd (ne is-scan); busy = λ q. omega (arith, e, q); quiet = quiet }) refl (st .1) (nowhere (record { task = Stages.cursorAt t k; write = write.Nothing; report = rep }) (rw e refl))
+      on-from k rep quiet = Goes.on (record { operation = refl; function = refl; argument = refl; key = λ ne. absurd (false≢true (sym ne ∙ is-scan)); busy = λ q. omega (arith, e, q); quiet = quiet }) refl (st .1) (nowhere (record { task = Stages.cursorAt t k; write = write.Nothing; report = rep }) (rw e refl))
+
+  -- ---- 23
+  scans-down-goes : t .stage ≡ 23 → By (Stages.scansDown z s t n)
+  scans-down-goes e =
+      picked By (ltb (Stages.topOf z s t n .0) (z .entries))
+      (λ _. picked (λ (rep : Report). By (record { task = t; write = write.Nothing; report = rep })) (undeleted z (s .marks) (entry z s (t .chunk) (Stages.topOf z s t n) .handle)) (λ _. stay _ refl) (λ _. stay _ refl))
+      (λ _. picked By (Stages.isLowest z s t) (λ _. Goes.answers refl refl (Ends.scanned (passes 23 isScan refl e (omega arith)))) (λ _. away st refl refl refl))
+    where
+      st : Stands false
+      st = stands 23 e refl refl
+
+      stay : (rep : Report) → ending rep ≡ false → By (record { task = t; write = write.Nothing; report = rep })
+      stay rep quiet = Goes.on (record { operation = refl; function = refl; argument = refl; key = λ _. refl; busy = λ q. omega (arith, e, q); quiet = quiet }) refl (st .1) (nowhere (record { task = t; write = write.Nothing; report = rep }) (rw e refl))
 
   -- ---- a number that is no stage
   stays-goes : t .stage ≢ 0 → decides z s t ≡ false → By (Stages.stays z s t)
@@ -304,9 +321,9 @@ module _ (z : Sizes) (lim : Limited z) (s : Tables) (r : Reached z s) (n : ℕ) 
       same (Gone.chunk q gone) = inl (Gone.chunk q (λ v. gone (shown-put t v)))
       same (Gone.old q d) = inl (Gone.old q d)
 
-  pub decides-goes : t .stage ≢ 0 → By (Stages.decide z s t)
+  pub decides-goes : t .stage ≢ 0 → By (Stages.decide z s n t)
   decides-goes busy =
-      each-stage z s t By (record {
+      each-stage z s n t By (record {
         locates = locates-goes;
         finds = finds-goes;
         reads = reads-goes;
@@ -325,5 +342,6 @@ module _ (z : Sizes) (lim : Limited z) (s : Tables) (r : Reached z s) (n : ℕ) 
         readsAgain = reads-again-goes;
         endsRemove = λ e. removed 21 e refl (omega arith) (stands 21 e refl refl);
         scans = scans-goes;
+        scansDown = scans-down-goes;
         stays = λ none. stays-goes busy (rw (none 11 refl, none 5 refl) refl);
       })

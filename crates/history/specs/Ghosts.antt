@@ -1,13 +1,13 @@
 -- What is kept of an operation at work along a run: what it was started with, its deciding step, and a moment of absence behind what it has seen.
 use Prim.Native.Nat.{ℕ, suc, _≤_}
 use mathlib.Core.Path.{_≡_}
-use mathlib.Core.Logic.{_⊎_, _≢_}
+use mathlib.Core.Logic.{_⊎_}
 use mathlib.Core.Bool.{true, false}
 use mathlib.Core.Option.{none}
 use lib.Dec.{eqb}
 use Rattle.rules.specs.declared.Sizes.{Sizes}
 use Rattle.rules.specs.declared.Task.{Task}
-use Rattle.rules.specs.Words.{pick, _or_, get, remove, scan, usesFunction}
+use Rattle.rules.specs.Words.{pick, _or_, get, remove, isScan, usesFunction}
 use Rattle.rules.specs.Calls.{Call}
 use Rattle.rules.specs.Map.{lookup}
 use Rattle.simulation.specs.Beside.{changeAnswer}
@@ -20,7 +20,7 @@ pub record Started (op k a f : ℕ) (t : Task) : Type 0 where
   pub operation : t .operation ≡ op
   pub function : t .function ≡ pick (usesFunction op) f 0
   pub argument : t .argument ≡ pick (eqb op get or eqb op remove) 0 a
-  pub key : op ≢ scan → t .key ≡ k
+  pub key : isScan op ≡ false → t .key ≡ k
 
 module _ (z : Sizes) (run : ℕ → Call) where
   -- at some moment after the operation's first step, and not after moment i, the key was absent
@@ -35,4 +35,4 @@ module _ (z : Sizes) (run : ℕ → Call) where
     pub started : Started op k a f t
     pub decided : ((past t ≡ false) × NeverDecides z run n j i) ⊎ ((past t ≡ true) × ByChange z run n op k a f j i (changeAnswer op))
     pub stepped : (looksIn (t .stage) ≡ true) ⊎ (looksOld (t .stage) ≡ true) → Stepped z run n j (suc i)
-    pub seen : op ≢ scan → Gone z (tablesAt z run (suc i)) t → WasAbsent n k j (suc i)
+    pub seen : isScan op ≡ false → Gone z (tablesAt z run (suc i)) t → WasAbsent n k j (suc i)

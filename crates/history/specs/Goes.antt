@@ -12,10 +12,10 @@ use Rattle.rules.specs.declared.ChunkNo.{ChunkNo}
 use Rattle.rules.specs.declared.Decision.{Decision}
 use Rattle.rules.specs.declared.Report.{Report}
 use Rattle.rules.specs.declared.Report.the-variants as report
-use Rattle.rules.specs.Words.{_and_, _or_, scan}
+use Rattle.rules.specs.Words.{_and_, _or_, isScan}
 use Rattle.rules.specs.Told.{told, isAnswer}
-use Rattle.rules.specs.Tables.{Tables, task, mark, value, putTask}
-use Rattle.rules.specs.Stages.{apply}
+use Rattle.rules.specs.Tables.{Tables, task, mark, value}
+use Rattle.rules.specs.Stages.{putOwn, apply}
 use Rattle.rules.specs.Map.{Pair, effect, onAbsent, onPresent}
 use Rattle.statements.specs.Runs.{decides}
 use Rattle.simulation.specs.Beside.{changeAnswer}
@@ -59,7 +59,7 @@ pub record Onward (t : Task) (x : Decision) : Type 0 where
   pub operation : x .task .operation ≡ t .operation
   pub function : x .task .function ≡ t .function
   pub argument : x .task .argument ≡ t .argument
-  pub key : t .operation ≢ scan → x .task .key ≡ t .key
+  pub key : isScan (t .operation) ≡ false → x .task .key ≡ t .key
   pub busy : x .task .stage ≢ 0
   pub quiet : ending (x .report) ≡ false
 
@@ -68,7 +68,7 @@ module _ (z : Sizes) (s : Tables) (n : ℕ) (x : Decision) where
   t = task s n
 
   abbrev pub stepped : Tables
-  stepped = apply z (putTask s n (x .task)) (x .write)
+  stepped = apply z (putOwn z s n (x .task)) (x .write)
 
   -- where it then shows none it did so before, or the key is absent now
   abbrev pub Follows : Type 0
@@ -77,7 +77,7 @@ module _ (z : Sizes) (s : Tables) (n : ℕ) (x : Decision) where
   -- what its answer stands on
   pub data Ends : Type 0 where
     -- 5 but for a remove: it decides
-    changes : past t ≡ false → decides z s t ≡ true → t .operation ≢ scan → x .report ≡ changeAnswer (t .operation) → Ends
+    changes : past t ≡ false → decides z s t ≡ true → isScan (t .operation) ≡ false → x .report ≡ changeAnswer (t .operation) → Ends
     -- 12, 17, 18, 21: it has decided
     tells : past t ≡ true → decides z s t ≡ false → x .report ≡ changeAnswer (t .operation) → Ends
     -- 4: it has seen the key present
@@ -86,12 +86,12 @@ module _ (z : Sizes) (s : Tables) (n : ℕ) (x : Decision) where
     -- 2, 3, 4, 15: it has seen the key absent
     absent : past t ≡ false → decides z s t ≡ false → Gone z s t → ((m : List Pair) → onAbsent m (t .operation) (t .key) (t .argument) (t .function) ≡ effect (x .report) m) → Ends
     -- 22
-    scanned : t .operation ≡ scan → Ends
+    scanned : isScan (t .operation) ≡ true → Ends
 
   pub data Goes : Type 0 where
     on : Onward t x → past (x .task) ≡ past t → decides z s t ≡ false → Follows → Goes
     -- 5 of a remove, and 11: it decides, and goes on
-    turns : Onward t x → past t ≡ false → past (x .task) ≡ true → decides z s t ≡ true → t .operation ≢ scan → Follows → Goes
+    turns : Onward t x → past t ≡ false → past (x .task) ≡ true → decides z s t ≡ true → isScan (t .operation) ≡ false → Follows → Goes
     answers : x .task .stage ≡ 0 → isAnswer (x .report) ≡ true → Ends → Goes
     -- 8: no handle is free
     refuses : x .task .stage ≡ 0 → past t ≡ false → decides z s t ≡ false → x .report ≡ report.Refused 9 → Goes

@@ -5,9 +5,9 @@ use mathlib.Core.Logic.{_≢_}
 use mathlib.Core.Bool.{true}
 use Rattle.rules.specs.declared.Sizes.{Sizes}
 use Rattle.rules.specs.declared.Report.the-variants as report
-use Rattle.rules.specs.Words.{usesFunction, scan}
-use Rattle.rules.specs.Tables.{Tables, task, putTask}
-use Rattle.rules.specs.Stages.{decide, apply}
+use Rattle.rules.specs.Words.{usesFunction, isScan}
+use Rattle.rules.specs.Tables.{Tables, task, stack, putTask}
+use Rattle.rules.specs.Stages.{decide, stackThen, putOwn, apply}
 use Rattle.rules.specs.Rebalance.{gives}
 use Rattle.rules.specs.Calls.{Call, started, calls}
 use Rattle.rules.specs.Calls.Call.{start, step}
@@ -18,9 +18,9 @@ module _ (z : Sizes) (s : Tables) (c : Call) (n : ℕ) where
     pub call : c ≡ start n op k a f
     pub numbered : n < z .tasks
     pub was : task s n .stage ≡ 0
-    pub known : (1 ≤ op) × (op ≤ 7)
+    pub known : (1 ≤ op) × (op ≤ 8)
     pub function : usesFunction op ≡ true → (1 ≤ f) × (f ≤ 3)
-    pub ordered : op ≡ scan → k ≤ a
+    pub ordered : isScan op ≡ true → k ≤ a
     pub done : calls z s c ≡ gives (putTask s n (started z s op k a f)) report.Moved
     pub row : task (calls z s c .tables) n ≡ started z s op k a f
 
@@ -28,12 +28,14 @@ module _ (z : Sizes) (s : Tables) (c : Call) (n : ℕ) where
     pub call : c ≡ step n
     pub numbered : n < z .tasks
     pub busy : task s n .stage ≢ 0
-    pub done : calls z s c ≡ gives (apply z (putTask s n (decide z s (task s n) .task)) (decide z s (task s n) .write)) (decide z s (task s n) .report)
-    pub row : task (calls z s c .tables) n ≡ decide z s (task s n) .task
+    pub done : calls z s c ≡ gives (apply z (putOwn z s n (decide z s n (task s n) .task)) (decide z s n (task s n) .write)) (decide z s n (task s n) .report)
+    pub row : task (calls z s c .tables) n ≡ decide z s n (task s n) .task
+    pub stack : stack (calls z s c .tables) n ≡ stackThen z s (task s n) n
 
   -- a step of a task that is not at work, or a start that is refused, or a call that is none of the task's
   pub record Rests : Type 0 where
     pub row : task (calls z s c .tables) n ≡ task s n
+    pub stack : stack (calls z s c .tables) n ≡ stack s n
     pub unstepped : c ≡ step n → task s n .stage ≡ 0
     pub unstarted : (op k a f : ℕ) → c ≡ start n op k a f → calls z s c .report ≢ report.Moved
 

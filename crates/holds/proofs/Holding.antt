@@ -16,7 +16,7 @@ use Rattle.rules.specs.declared.Chunk.{Chunk}
 use Rattle.rules.specs.declared.Entry.{Entry}
 use Rattle.rules.specs.declared.ChunkNo.{ChunkNo}
 use Rattle.rules.specs.declared.Decision.{Decision}
-use Rattle.rules.specs.Words.{_and_, _or_, chunkNo, noChunk, unused, live, new, retired, usesFunction, scan, idle, toDrain, toCopy, toSwap, toRelease}
+use Rattle.rules.specs.Words.{_and_, _or_, chunkNo, noChunk, unused, live, new, retired, usesFunction, isScan, idle, toDrain, toCopy, toSwap, toRelease}
 use Rattle.rules.specs.Tables.{Tables, idleTask, emptyChunk, emptyEntry, chunkAt, chunk, task, putTask, withDirectory, withChunks, withEntries}
 use Rattle.rules.specs.Walks.{locate}
 use Rattle.rules.specs.Stages
@@ -33,7 +33,7 @@ use Rattle.facts.specs.Reached.{Reached}
 use Rattle.facts.proofs.Applying.{Applied, applied-by}
 use Rattle.facts.proofs.Ends.{decides-fine}
 use Rattle.facts.proofs.Fresh.{getD-all}
-use Rattle.facts.proofs.Swapping.{beforeOld}
+use Rattle.facts.specs.Swapped.{beforeOld}
 use Rattle.facts.proofs.SwapIn.{swap-by}
 use Rattle.facts.proofs.Copying
 use Rattle.facts.proofs.Making.{newRow}
@@ -101,20 +101,20 @@ module _ (z : Sizes) (lim : Limited z) (s : Tables) (kept : Kept z s) (held : He
       go : (m : ℕ) → ((m ≡ n) × (getD (set (s .tasks) n t) m idleTask ≡ t)) ⊎ ((m ≢ n) × (getD (set (s .tasks) n t) m idleTask ≡ task s m)) → task x m .published ≡ 1 → PublisherLive z (x .directory) (x .chunks) (task x m)
       go m w = rw (ap (λ (ts : List Task). getD ts m idleTask) e) (⊎-elim (λ (o : (m ≡ n) × (getD (set (s .tasks) n t) m idleTask ≡ t)). rw (o .1) own) (λ (o : (m ≢ n) × (getD (set (s .tasks) n t) m idleTask ≡ task s m)). rw (o .1) (others m)) w)
 
-  step-done : (n : ℕ) → n < z .tasks → Held z (Stages.apply z (putTask s n (Stages.decide z s (task s n) .task)) (Stages.decide z s (task s n) .write))
+  step-done : (n : ℕ) → n < z .tasks → Held z (Stages.apply z (Stages.putOwn z s n (Stages.decide z s n (task s n) .task)) (Stages.decide z s n (task s n) .write))
   step-done n b = one-row s′ n (x .task) b (a .tasks) own (λ m p. moved (task s m) (held .publisher-live m p))
     where
       x : Decision
-      x = Stages.decide z s (task s n)
+      x = Stages.decide z s n (task s n)
 
       s₁ : Tables
-      s₁ = putTask s n (x .task)
+      s₁ = Stages.putOwn z s n (x .task)
 
       s′ : Tables
       s′ = Stages.apply z s₁ (x .write)
 
       a : Applied z s₁ s′
-      a = applied-by z lim s₁ (kept .tables) (x .write) (decides-fine z lim s (kept .tables) (task s n) (kept .tasks n) .allowed)
+      a = applied-by z lim s₁ (kept .tables) (x .write) (decides-fine z lim s (kept .tables) (task s n) (kept .tasks n) n .allowed)
 
       moved : (t : Task) → PublisherLive z (s .directory) (s .chunks) t → PublisherLive z (s′ .directory) (s′ .chunks) t
       moved t p = record { numbered = p .numbered; isLive = a .written .same .status (t .chunk) ∙ p .isLive; drains = rw (a .directory) (p .drains) }
@@ -123,7 +123,7 @@ module _ (z : Sizes) (lim : Limited z) (s : Tables) (kept : Kept z s) (held : He
       own p = moved (x .task) (record { numbered = rw (w .0) (at .numbered); isLive = rw (w .0) (at .isLive); drains = rw (w .0) (at .drains) })
         where
           w : (x .task .chunk ≡ task s n .chunk) × ((task s n .published ≡ 1) ⊎ ((chunk s (task s n .chunk) .frozen ≡ 0) × (task s n .chunk .0 < z .chunks)))
-          w = decides-publish z s (task s n) (kept .tasks n) .publishes p
+          w = decides-publish z s (task s n) (kept .tasks n) n .publishes p
 
           newly : (chunk s (task s n .chunk) .frozen ≡ 0) × (task s n .chunk .0 < z .chunks) → PublisherLive z (s .directory) (s .chunks) (task s n)
           newly u = record { numbered = u .1; isLive = ⊎-elim (λ r. absurd (unfrozen (task s n .chunk) (u .1) (u .0) .0 r)) (λ r. r .0) (kept .tasks n .chunk-of-key (u .1)); drains = λ _. unfrozen (task s n .chunk) (u .1) (u .0) .1 }
@@ -140,8 +140,8 @@ module _ (z : Sizes) (lim : Limited z) (s : Tables) (kept : Kept z s) (held : He
   start-held n op k a f =
       picked O (leb (z .tasks) n) (λ _. held)
       (λ b. picked O (eqb (task s n .stage) 0)
-      (λ _. picked O (ltb op 1 or ltb 7 op or (usesFunction op and (ltb f 1 or ltb 3 f))) (λ _. held)
-      (λ _. picked O (eqb op scan and ltb a k) (λ _. held) (λ _. one-row (putTask s n (started z s op k a f)) n (started z s op k a f) (leb-false _ _ b) refl (λ p. absurd (never p)) (held .publisher-live))))
+      (λ _. picked O (ltb op 1 or ltb 8 op or (usesFunction op and (ltb f 1 or ltb 3 f))) (λ _. held)
+      (λ _. picked O (isScan op and ltb a k) (λ _. held) (λ _. one-row (putTask s n (started z s op k a f)) n (started z s op k a f) (leb-false _ _ b) refl (λ p. absurd (never p)) (held .publisher-live))))
       (λ _. held))
     where
       O : Outcome → Type 0

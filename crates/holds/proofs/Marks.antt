@@ -10,12 +10,13 @@ use lib.ListN.{length, getD, set}
 use lib.Seq.{getD-set-same, getD-set-other, set-out}
 use borrow.Author.Tests.{leb-false}
 use Rattle.rules.specs.declared.Sizes.{Sizes}
+use Rattle.rules.specs.declared.EntryNo.{EntryNo}
 use Rattle.rules.specs.declared.Task.{Task}
 use Rattle.rules.specs.declared.Decision.{Decision}
 use Rattle.rules.specs.declared.Write.{Write}
 use Rattle.rules.specs.declared.Write.the-variants as write
-use Rattle.rules.specs.Words.{_and_, _or_, NONE, usesFunction, scan}
-use Rattle.rules.specs.Tables.{Tables, idleTask, withTasks, task, putTask}
+use Rattle.rules.specs.Words.{_and_, _or_, NONE, usesFunction, isScan}
+use Rattle.rules.specs.Tables.{Tables, idleTask, withOwn, task, putTask}
 use Rattle.rules.specs.Stages
 use Rattle.rules.specs.Rebalance.{Outcome}
 use Rattle.rules.specs.Calls.{Call, fresh, started, starts, steps, does}
@@ -40,8 +41,8 @@ one-stays l i j h = elim (ℕ-discrete j i) [ yes e ↦ elim (decLt i (length l)
 
 module _ (z : Sizes) (lim : Limited z) (s : Tables) (kept : Kept z s) (own : OwnedBy z s) (marked : Marked z s) where
   -- ---- another task's handles, after a write
-  module _ (n : ℕ) (ts : List Task) (m : ℕ) (ne : m ≢ n) where
-    old-then : (w : Write) → Touches z lim s kept marked n w → OldDeleted z (Stages.apply z (withTasks s ts) w .marks) (task s m)
+  module _ (n : ℕ) (ts : List Task) (ss : List (List EntryNo)) (m : ℕ) (ne : m ≢ n) where
+    old-then : (w : Write) → Touches z lim s kept marked n w → OldDeleted z (Stages.apply z (withOwn s ts ss) w .marks) (task s m)
     old-then write.Nothing u = marked .old-deleted m
     old-then (write.Slot c k) u = marked .old-deleted m
     old-then (write.Link c e before) u = picked (λ (x : Tables). OldDeleted z (x .marks) (task s m)) (ltb (before .0) (z .entries)) (λ _. marked .old-deleted m) (λ _. marked .old-deleted m)
@@ -50,7 +51,7 @@ module _ (z : Sizes) (lim : Limited z) (s : Tables) (kept : Kept z s) (own : Own
     old-then (write.Delete h) u = λ x y b. one-stays (s .marks) (h .0) (task s m .old .0) (marked .old-deleted m x y b)
     old-then (write.Name c e h) u = marked .old-deleted m
 
-    new-then : (w : Write) → Touches z lim s kept marked n w → NewWritten z (Stages.apply z (withTasks s ts) w .marks) (Stages.apply z (withTasks s ts) w .values) (task s m)
+    new-then : (w : Write) → Touches z lim s kept marked n w → NewWritten z (Stages.apply z (withOwn s ts ss) w .marks) (Stages.apply z (withOwn s ts ss) w .values) (task s m)
     new-then write.Nothing u = marked .new-written m
     new-then (write.Slot c k) u = marked .new-written m
     new-then (write.Link c e before) u = picked (λ (x : Tables). NewWritten z (x .marks) (x .values) (task s m)) (ltb (before .0) (z .entries)) (λ _. marked .new-written m) (λ _. marked .new-written m)
@@ -75,23 +76,23 @@ module _ (z : Sizes) (lim : Limited z) (s : Tables) (kept : Kept z s) (own : Own
   step-marked n =
       picked (λ (o : Outcome). Marked z (o .tables)) (leb (z .tasks) n) (λ _. marked)
       (λ b. picked (λ (o : Outcome). Marked z (o .tables)) (eqb (task s n .stage) 0) (λ _. marked)
-      (λ _. one-row (Stages.apply z (putTask s n (x .task)) (x .write)) n (x .task) (leb-false _ _ b) (a .tasks) (d .old (set (s .tasks) n (x .task))) (d .new (set (s .tasks) n (x .task))) (λ m ne. (old-then n (set (s .tasks) n (x .task)) m ne (x .write) (d .touches), new-then n (set (s .tasks) n (x .task)) m ne (x .write) (d .touches)))))
+      (λ _. one-row (Stages.apply z (Stages.putOwn z s n (x .task)) (x .write)) n (x .task) (leb-false _ _ b) (a .tasks) (d .old (set (s .tasks) n (x .task)) _) (d .new (set (s .tasks) n (x .task)) _) (λ m ne. (old-then n (set (s .tasks) n (x .task)) _ m ne (x .write) (d .touches), new-then n (set (s .tasks) n (x .task)) _ m ne (x .write) (d .touches)))))
     where
       x : Decision
-      x = Stages.decide z s (task s n)
+      x = Stages.decide z s n (task s n)
 
       d : Marks z lim s kept marked n x
       d = decides-marks z lim s kept marked n
 
-      a : Applied z (putTask s n (x .task)) (Stages.apply z (putTask s n (x .task)) (x .write))
-      a = applied-by z lim (putTask s n (x .task)) (kept .tables) (x .write) (decides-fine z lim s (kept .tables) (task s n) (kept .tasks n) .allowed)
+      a : Applied z (Stages.putOwn z s n (x .task)) (Stages.apply z (Stages.putOwn z s n (x .task)) (x .write))
+      a = applied-by z lim (Stages.putOwn z s n (x .task)) (kept .tables) (x .write) (decides-fine z lim s (kept .tables) (task s n) (kept .tasks n) n .allowed)
 
   start-marked : (n op k a f : ℕ) → Marked z (starts z s n op k a f .tables)
   start-marked n op k a f =
       picked O (leb (z .tasks) n) (λ _. marked)
       (λ b. picked O (eqb (task s n .stage) 0)
-      (λ _. picked O (ltb op 1 or ltb 7 op or (usesFunction op and (ltb f 1 or ltb 3 f))) (λ _. marked)
-      (λ _. picked O (eqb op scan and ltb a k) (λ _. marked) (λ _. one-row (putTask s n (started z s op k a f)) n (started z s op k a f) (leb-false _ _ b) refl (λ _ _ i. absurd (out i)) (λ i. absurd (out i)) (λ m _. (marked .old-deleted m, marked .new-written m)))))
+      (λ _. picked O (ltb op 1 or ltb 8 op or (usesFunction op and (ltb f 1 or ltb 3 f))) (λ _. marked)
+      (λ _. picked O (isScan op and ltb a k) (λ _. marked) (λ _. one-row (putTask s n (started z s op k a f)) n (started z s op k a f) (leb-false _ _ b) refl (λ _ _ i. absurd (out i)) (λ i. absurd (out i)) (λ m _. (marked .old-deleted m, marked .new-written m)))))
       (λ _. marked))
     where
       O : Outcome → Type 0
@@ -101,7 +102,7 @@ module _ (z : Sizes) (lim : Limited z) (s : Tables) (kept : Kept z s) (own : Own
       out b = omega (arith, lim .handles)
 
   -- ---- a call that leaves the tasks and the handles' records
-  left : (x : Tables) → (x .tasks ≡ s .tasks) × (x .values ≡ s .values) × (x .marks ≡ s .marks) → Marked z x
+  left : (x : Tables) → (x .tasks ≡ s .tasks) × (x .values ≡ s .values) × (x .marks ≡ s .marks) × (x .stacks ≡ s .stacks) → Marked z x
   left x e = record { old-deleted = λ n. rw (e .0, e .2) (marked .old-deleted n); new-written = λ n. rw (e .0, e .1, e .2) (marked .new-written n) }
 
   pub does-marked : (c : Call) → Marked z (does z s c .tables)

@@ -72,9 +72,9 @@ module _ (z : Sizes) (s : Tables) (t : Task) (r : Tasked z (s .chunks) (s .entri
   swaps-at (inr (inl e)) h = let H = holds-at 14 e (omega arith) in swaps-so h (eqb-true _ _ (H .published)) (ltb-true _ _ (H .entry)) (rw e (omega arith))
   swaps-at (inr (inr e)) h = let H = holds-at 20 e (omega arith) in swaps-so h (eqb-true _ _ (H .published)) (ltb-true _ _ (H .entry)) (rw e (omega arith))
 
-  pub decides-publish : Publishes (Stages.decide z s t)
-  decides-publish =
-      each-stage z s t Publishes (record {
+  pub decides-publish : (n : ℕ) → Publishes (Stages.decide z s n t)
+  decides-publish n =
+      each-stage z s n t Publishes (record {
         locates = search publishing;
         finds = search publishing;
         reads = search publishing;
@@ -93,5 +93,6 @@ module _ (z : Sizes) (s : Tables) (t : Task) (r : Tasked z (s .chunks) (s .entri
         readsAgain = search publishing;
         endsRemove = search publishing;
         scans = search publishing;
+        scansDown = search publishing;
         stays = search publishing;
       })

@@ -22,8 +22,8 @@ use Rattle.rules.specs.declared.EntryNo.{EntryNo}
 use Rattle.rules.specs.declared.Decision.{Decision}
 use Rattle.rules.specs.declared.Write.{Write}
 use Rattle.rules.specs.declared.Write.the-variants as write
-use Rattle.rules.specs.Words.{_and_, _or_, NONE, entryNo, noChunk, noHandle, noEntry, unused, usesFunction, scan, idle, toDrain, toCopy, toSwap, toRelease}
-use Rattle.rules.specs.Tables.{Tables, emptyChunk, emptyEntry, chunkAt, chunk, entryAt, entry, row, task, putTask, putChunk, withTasks, withDirectory, withChunks, withEntries}
+use Rattle.rules.specs.Words.{_and_, _or_, NONE, entryNo, noChunk, noHandle, noEntry, unused, usesFunction, isScan, idle, toDrain, toCopy, toSwap, toRelease}
+use Rattle.rules.specs.Tables.{Tables, emptyChunk, emptyEntry, chunkAt, chunk, entryAt, entry, row, task, putChunk, withOwn, withDirectory, withChunks, withEntries}
 use Rattle.rules.specs.Walks.{locate, linked, listFrom}
 use Rattle.rules.specs.Stages
 use Rattle.rules.specs.Rebalance.{Outcome, unusedCount, unusedFrom, publishedOn, heldChunk, namingFrom, frozenOf, makes, at, begins, copies, swapsIn, releases, rebalanceDoes}
@@ -45,7 +45,7 @@ use Rattle.facts.proofs.Making.{newRow}
 use Rattle.facts.proofs.Copying
 use Rattle.rules.specs.Shape.{numbers}
 use Rattle.laws.specs.Counts.{Every}
-use Rattle.facts.proofs.Swapping.{beforeOld}
+use Rattle.facts.specs.Swapped.{beforeOld}
 use Rattle.facts.proofs.SwapIn.{swap-by}
 use Rattle.facts.proofs.Reaching.{call-by, reached-kept}
 use Rattle.holds.specs.Unlinked.{UnlinkedNone}
@@ -108,14 +108,14 @@ module _ (z : Sizes) (lim : Limited z) (s : Tables) (kept : Kept z s) (un : Unli
   len = kept .tables .entries-sized
 
   -- ---- a step: what names a handle afterwards was linked
-  module _ (ts : List Task) (c : ChunkNo) (e : EntryNo) (b : c .0 < z .chunks) (be : e .0 < z .entries) where
+  module _ (ts : List Task) (ss : List (List EntryNo)) (c : ChunkNo) (e : EntryNo) (b : c .0 < z .chunks) (be : e .0 < z .entries) where
     abbrev Was : Entry → Type 0
     Was y = y .handle .0 < z .handles → List·Memᴰ e (linked z s c)
 
     as-it-was : Was (entry z s c e)
     as-it-was = un c e b be
 
-    names-then : (w : Write) → Allowed z (s .chunks) (s .entries) w → NamesLinked z s w → Was (entryAt z (Stages.apply z (withTasks s ts) w .entries) c e)
+    names-then : (w : Write) → Allowed z (s .chunks) (s .entries) w → NamesLinked z s w → Was (entryAt z (Stages.apply z (withOwn s ts ss) w .entries) c e)
     names-then write.Nothing a m = as-it-was
     names-then (write.Slot d k) a m = entry-put z (s .entries) d (entryNo (chunk s d .used)) (record { key = k; handle = noHandle; next = noEntry }) c e Was len (a .0) (a .2) be (λ _ _ i. absurd (out i)) (λ _. as-it-was)
     names-then (write.Link d f before) a m =
@@ -143,19 +143,19 @@ module _ (z : Sizes) (lim : Limited z) (s : Tables) (kept : Kept z s) (un : Unli
   step-unlinked n =
       picked (λ (o : Outcome). UnlinkedIn (o .tables)) (leb (z .tasks) n) (λ _. un)
       (λ _. picked (λ (o : Outcome). UnlinkedIn (o .tables)) (eqb (task s n .stage) 0) (λ _. un)
-      (λ _ c e b be i. a .written .members c e b (names-then (set (s .tasks) n (x .task)) c e b be (x .write) (decides-fine z lim s (kept .tables) (task s n) (kept .tasks n) .allowed) (decides-publish z s (task s n) (kept .tasks n) .names) i)))
+      (λ _ c e b be i. a .written .members c e b (names-then (set (s .tasks) n (x .task)) _ c e b be (x .write) (decides-fine z lim s (kept .tables) (task s n) (kept .tasks n) n .allowed) (decides-publish z s (task s n) (kept .tasks n) n .names) i)))
     where
       x : Decision
-      x = Stages.decide z s (task s n)
+      x = Stages.decide z s n (task s n)
 
-      a : Applied z (putTask s n (x .task)) (Stages.apply z (putTask s n (x .task)) (x .write))
-      a = applied-by z lim (putTask s n (x .task)) (kept .tables) (x .write) (decides-fine z lim s (kept .tables) (task s n) (kept .tasks n) .allowed)
+      a : Applied z (Stages.putOwn z s n (x .task)) (Stages.apply z (Stages.putOwn z s n (x .task)) (x .write))
+      a = applied-by z lim (Stages.putOwn z s n (x .task)) (kept .tables) (x .write) (decides-fine z lim s (kept .tables) (task s n) (kept .tasks n) n .allowed)
 
   start-unlinked : (n op k a f : ℕ) → UnlinkedIn (starts z s n op k a f .tables)
   start-unlinked n op k a f =
       picked O (leb (z .tasks) n) (λ _. un)
       (λ b. picked O (eqb (task s n .stage) 0)
-      (λ _. picked O (ltb op 1 or ltb 7 op or (usesFunction op and (ltb f 1 or ltb 3 f))) (λ _. un) (λ _. picked O (eqb op scan and ltb a k) (λ _. un) (λ _. un)))
+      (λ _. picked O (ltb op 1 or ltb 8 op or (usesFunction op and (ltb f 1 or ltb 3 f))) (λ _. un) (λ _. picked O (isScan op and ltb a k) (λ _. un) (λ _. un)))
       (λ _. un))
     where
       O : Outcome → Type 0

@@ -15,8 +15,8 @@ use Rattle.rules.proofs.Stages.{stage-cases}
 use Rattle.laws.specs.EachStage.{EachStage}
 use Rattle.laws.proofs.Tests.{picked, and-right, or-cases, or-left, or-right}
 
-module _ (z : Sizes) (s : Tables) (t : Task) (P : Decision → Type 0) where
-  pub each-stage : EachStage z s t P → P (Stages.decide z s t)
+module _ (z : Sizes) (s : Tables) (n : ℕ) (t : Task) (P : Decision → Type 0) where
+  pub each-stage : EachStage z s n t P → P (Stages.decide z s n t)
   unfolding Stages.stageDoes
   each-stage each =
       picked Q (eqb m 1 or eqb m 16) (λ e. each .locates (⊎-map (eqb-true m 1) (eqb-true m 16) (or-cases _ _ e)))
@@ -37,8 +37,9 @@ module _ (z : Sizes) (s : Tables) (t : Task) (P : Decision → Type 0) where
       (λ no17. picked Q (eqb m 18) (λ e. each .readsAgain (eqb-true m 18 e))
       (λ no18. picked Q (eqb m 21) (λ e. each .endsRemove (eqb-true m 21 e))
       (λ no21. picked Q (eqb m 22) (λ e. each .scans (eqb-true m 22 e))
-      (λ no22. each .stays (λ k i. stage-cases (λ k. (leb 1 k and leb k 22) ≡ true → eqb m k ≡ false) (λ i. absurd (false≢true i))
-      (λ _. or-left _ _ no1) (λ _. no2) (λ _. no3) (λ _. no4) (λ _. no5) (λ _. no6) (λ _. no7) (λ _. no8) (λ _. no9) (λ _. or-left _ _ no10) (λ _. no11) (λ _. no12) (λ _. or-left _ _ (or-right (eqb m 10) _ no10)) (λ _. or-left _ _ no14) (λ _. no15) (λ _. or-right (eqb m 1) _ no1) (λ _. no17) (λ _. no18) (λ _. or-right (eqb m 13) _ (or-right (eqb m 10) _ no10)) (λ _. or-right (eqb m 14) _ no14) (λ _. no21) (λ _. no22) k (leb-true k 22 (and-right (leb 1 k) _ i)) i)))))))))))))))))))
+      (λ no22. picked Q (eqb m 23) (λ e. each .scansDown (eqb-true m 23 e))
+      (λ no23. each .stays (λ k i. stage-cases (λ k. (leb 1 k and leb k 23) ≡ true → eqb m k ≡ false) (λ i. absurd (false≢true i))
+      (λ _. or-left _ _ no1) (λ _. no2) (λ _. no3) (λ _. no4) (λ _. no5) (λ _. no6) (λ _. no7) (λ _. no8) (λ _. no9) (λ _. or-left _ _ no10) (λ _. no11) (λ _. no12) (λ _. or-left _ _ (or-right (eqb m 10) _ no10)) (λ _. or-left _ _ no14) (λ _. no15) (λ _. or-right (eqb m 1) _ no1) (λ _. no17) (λ _. no18) (λ _. or-right (eqb m 13) _ (or-right (eqb m 10) _ no10)) (λ _. or-right (eqb m 14) _ no14) (λ _. no21) (λ _. no22) (λ _. no23) k (leb-true k 23 (and-right (leb 1 k) _ i)) i))))))))))))))))))))
     where
       m : ℕ
       m = t .stage
@@ -47,5 +48,5 @@ module _ (z : Sizes) (s : Tables) (t : Task) (P : Decision → Type 0) where
       Q f = P (f z s t)
 
   -- what the stage of that number decides, of a task that stands there
-  pub at-stage : (m : ℕ) → t .stage ≡ m → P (Stages.stageDoes m z s t) → P (Stages.decide z s t)
-  at-stage m e = subst (λ (n : ℕ). P (Stages.stageDoes n z s t)) (sym e)
+  pub at-stage : (m : ℕ) → t .stage ≡ m → P (Stages.stageDoes m n z s t) → P (Stages.decide z s n t)
+  at-stage m e = subst (λ (k : ℕ). P (Stages.stageDoes k n z s t)) (sym e)

@@ -13,10 +13,10 @@ use Rattle.rules.specs.Stages
 
 -- a number that is no stage
 abbrev pub NoStage : ℕ → Type 0
-NoStage n = (m : ℕ) → (leb 1 m and leb m 22) ≡ true → eqb n m ≡ false
+NoStage n = (m : ℕ) → (leb 1 m and leb m 23) ≡ true → eqb n m ≡ false
 
--- P of what each rule decides, for a task that stands at a stage of the rule
-pub record EachStage (z : Sizes) (s : Tables) (t : Task) (P : Decision → Type 0) : Type 0 where
+-- P of what each rule decides, for a task, of number n, that stands at a stage of the rule
+pub record EachStage (z : Sizes) (s : Tables) (n : ℕ) (t : Task) (P : Decision → Type 0) : Type 0 where
   pub locates : (t .stage ≡ 1) ⊎ (t .stage ≡ 16) → P (Stages.locates z s t)
   pub finds : t .stage ≡ 2 → P (Stages.finds z s t)
   pub reads : t .stage ≡ 3 → P (Stages.reads z s t)
@@ -35,4 +35,5 @@ pub record EachStage (z : Sizes) (s : Tables) (t : Task) (P : Decision → Type 
   pub readsAgain : t .stage ≡ 18 → P (Stages.readsAgain z s t)
   pub endsRemove : t .stage ≡ 21 → P (Stages.endsRemove z s t)
   pub scans : t .stage ≡ 22 → P (Stages.scans z s t)
+  pub scansDown : t .stage ≡ 23 → P (Stages.scansDown z s t n)
   pub stays : NoStage (t .stage) → P (Stages.stays z s t)

@@ -1,19 +1,22 @@
 // The fresh directory, made over whatever the tables held.
 use rules::ChunkNo;
 use rules::Directory;
+use rules::NONE;
 use rules::Sizes;
 ghost use mathlib.Core.Path.{_≡_};
-ghost use Prim.Native.Nat.{_*_, _≤_};
-ghost use lib.ListN.{length, replicate};
-ghost use Rattle.rules.specs.Tables.{idleTask, emptyChunk, emptyEntry};
+ghost use mathlib.Core.List.{_++_};
+ghost use Prim.Native.Nat.{_+_, _*_, _-_, _≤_};
+ghost use lib.ListN.{length, take, replicate};
+ghost use Rattle.rules.specs.declared.Sizes.{Sizes};
+ghost use Rattle.rules.specs.Tables.{idleTask, emptyChunk, emptyEntry, emptyStack};
 ghost use Rattle.rules.specs.Calls.{fresh};
 ghost use Rattle.making.specs.Clearing.{everyOther};
-ghost use Rattle.rows.specs.Rows.{taskRows, chunkRows, entryRows, tables, asLeft, Lends};
+ghost use Rattle.rows.specs.Rows.{taskRows, chunkRows, entryRows, stackRows, asLeft, Lends};
 
-// The first `n` tasks are idle.
+// The first `n` tasks are idle; what stands past every task's row stays.
 pub fn idle_tasks(n: usize, tasks: &mut [u64])
     requires { ⌜ n * 11 ≤ length (now tasks) ⌝ }
-    ensures { λ _. ⌜ taskRows n (now (tasks .exit)) ≡ replicate n idleTask ⌝ }
+    ensures { λ _. ⌜ (taskRows n (now (tasks .exit)) ≡ replicate n idleTask) × ((z : Sizes) → n ≤ z .tasks → stackRows z (now (tasks .exit)) ≡ stackRows z (now (tasks .entry))) ⌝ }
 {
     let mut i = 0;
     while i < n {
@@ -46,23 +49,35 @@ pub fn empty_entries(n: usize, entries: &mut [u64])
     }
 }
 
-// Every other word is 0, from place `from` on.
-fn every_other(from: usize, words: &mut [u64])
-    ensures { λ _. ⌜ now (words .exit) ≡ everyOther from (now (words .entry)) ⌝ }
+// Every other word is `v`, from place `from` on.
+fn every_other(v: u64, from: usize, words: &mut [u64])
+    ensures { λ _. ⌜ now (words .exit) ≡ everyOther v from (now (words .entry)) ⌝ }
 {
     let mut i = from;
     while i < words.len() {
-        words[i] = 0;
+        words[i] = v;
         i += 2;
     }
 }
 
-// Every word is 0, and none is read; it is written in two passes, each of every other word, since a compiler makes one pass over all of them a call of `memset`.
-pub fn zeros(words: &mut [u64])
-    ensures { λ _. ⌜ now (words .exit) ≡ replicate (length (now (words .entry))) 0 ⌝ }
+// Every word from place `from` on is `v`, and none is read; they are written in two passes, each of every other word, since a compiler makes one pass over all of them a call of `memset`.
+pub fn fill(v: u64, from: usize, words: &mut [u64])
+    requires { ⌜ from ≤ length (now words) ⌝ }
+    ensures { λ _. ⌜ now (words .exit) ≡ take from (now (words .entry)) ++ replicate (length (now (words .entry)) - from) v ⌝ }
 {
-    every_other(0, words);
-    every_other(1, words);
+    let next = from + 1;
+    every_other(v, from, words);
+    every_other(v, next, words);
+}
+
+// Every task is idle, and its stack is empty.
+pub fn clear_tasks(z: Sizes, tasks: &mut [u64])
+    requires { ⌜ length (now tasks) ≡ z .tasks * 11 + z .tasks * z .entries ⌝ }
+    ensures { λ _. ⌜ (taskRows (z .tasks) (now (tasks .exit)) ≡ replicate (z .tasks) idleTask) × (stackRows z (now (tasks .exit)) ≡ replicate (z .tasks) (emptyStack z)) ⌝ }
+{
+    let first = z.tasks * rows::TASK_WORDS;
+    fill(NONE, first, tasks);
+    idle_tasks(z.tasks, tasks);
 }
 
 // Chunk 0 is live; all else is unused and idle.
@@ -79,12 +94,12 @@ pub fn make(
     ensures { λ _. ⌜ asLeft z directory tasks chunks entries values marks ≡ fresh z ⌝ }
 {
     rows::put_directory_row(directory, Directory::fresh());
-    idle_tasks(z.tasks, tasks);
+    clear_tasks(z, tasks);
     empty_chunks(z.chunks, chunks);
     let mut first = rows::empty_chunk();
     first.status = 1;
     rows::put_chunk(z, chunks, ChunkNo(0), first);
     empty_entries(z.chunks * z.entries, entries);
-    zeros(values);
-    zeros(marks);
+    fill(0, 0, values);
+    fill(0, 0, marks);
 }

@@ -9,7 +9,7 @@ use rules::Report;
 use rules::Sizes;
 ghost use mathlib.Core.Path.{_≡_};
 ghost use mathlib.Core.List.{List};
-ghost use Prim.Native.Nat.{ℕ, _+_, _*_, _<_};
+ghost use Prim.Native.Nat.{ℕ, _+_, _*_, _<_, _≤_};
 ghost use lib.ListN.{length, set};
 ghost use lib.Dec.{eqb};
 ghost use Rattle.rules.specs.Words.{pick};
@@ -110,7 +110,7 @@ pub fn begin(z: Sizes, directory: &mut [u64], chunks: &mut [u64], k: u64) -> Rep
 
 // The old chunk has no publisher left.
 pub fn drain(z: Sizes, directory: &mut [u64], tasks: &[u64]) -> Report
-    requires { ⌜ (length (now directory) ≡ 5) × (length (now tasks) ≡ z .tasks * 11) ⌝ }
+    requires { ⌜ (length (now directory) ≡ 5) × (z .tasks * 11 ≤ length (now tasks)) ⌝ }
     ensures { λ r. ⌜ ((cs es vs ms : List ℕ) → gives (tables z (now (directory .exit)) (now (tasks .entry)) cs es vs ms) r ≡ drains z (tables z (now (directory .entry)) (now (tasks .entry)) cs es vs ms)) ⌝ }
 {
     let d = rows::directory_row(directory);

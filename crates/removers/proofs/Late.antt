@@ -1,6 +1,6 @@
 -- Which decisions leave a task past 16, and which delete.
 use Prim.Native.Nat.{ℕ, _+_, _≤_}
-use mathlib.Core.Path.{_≡_, refl}
+use mathlib.Core.Path.{sym, _≡_, refl}
 use mathlib.Core.Logic.{_≢_}
 use mathlib.Core.Bool.{Bool, true}
 use native.Mathlib.Omega.{arith}
@@ -63,9 +63,9 @@ module _ (z : Sizes) (s : Tables) (t : Task) where
   stayed : {x : Decision} → t .stage ≢ 21 → x .task .stage ≡ t .stage → sets (x .task) (x .write) ≡ true → Late x
   stayed ne e w = record { from = λ a b. (omega arith, omega (arith, ne)); sets = w }
 
-  pub decides-late : Late (Stages.decide z s t)
-  decides-late =
-      each-stage z s t Late (record {
+  pub decides-late : (n : ℕ) → Late (Stages.decide z s n t)
+  decides-late n =
+      each-stage z s n t Late (record {
         locates = λ _. next refl refl;
         finds = λ _. low _ (simp earlier);
         reads = λ _. low _ (simp earlier);
@@ -84,5 +84,6 @@ module _ (z : Sizes) (s : Tables) (t : Task) where
         readsAgain = λ e. picked Late (eqb (entry z s (t .chunk) (t .entry) .handle .0) (t .old .0)) (λ _. there 18 e (omega arith) (omega arith) refl) (λ _. low _ refl);
         endsRemove = λ _. low _ refl;
         scans = λ e. picked Late (leb (t .argument) (t .key)) (λ _. low _ refl) (λ _. picked Late (ltb (firstPresent z s (locate z s (t .key)) (t .key) (t .argument) .0) (z .entries)) (λ _. stayed (rw e (omega arith)) refl refl) (λ _. picked Late (ltb (chunk s (locate z s (t .key)) .next .0) (z .chunks)) (λ _. stayed (rw e (omega arith)) refl refl) (λ _. low _ refl)));
+        scansDown = λ e. picked Late (ltb (Stages.topOf z s t n .0) (z .entries)) (λ _. stayed (rw e (omega arith)) refl refl) (λ _. picked Late (Stages.isLowest z s t) (λ _. low _ refl) (λ _. stayed (rw e (omega arith)) (sym e) refl));
         stays = λ none. stayed (eqb-false _ _ (none 21 refl)) refl refl;
       })

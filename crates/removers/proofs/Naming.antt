@@ -19,7 +19,7 @@ use Rattle.rules.specs.declared.Decision.{Decision}
 use Rattle.rules.specs.declared.Write.{Write}
 use Rattle.rules.specs.declared.Write.the-variants as write
 use Rattle.rules.specs.Words.{NONE, handleNo, live}
-use Rattle.rules.specs.Tables.{Tables, chunk, entry, task, withTasks}
+use Rattle.rules.specs.Tables.{Tables, chunk, entry, task, withOwn}
 use Rattle.rules.specs.Stages
 use Rattle.laws.proofs.Tests.{picked, and-left, and-right}
 use Rattle.statements.specs.Sound.{Limited}
@@ -63,20 +63,23 @@ module _ (z : Sizes) (lim : Limited z) (s : Tables) (r : Reached z s) (n : ℕ) 
   t = task s n
 
   abbrev x : Decision
-  x = Stages.decide z s t
+  x = Stages.decide z s n t
 
   abbrev ts : List Task
   ts = set (s .tasks) n (x .task)
 
+  abbrev ss : List (List EntryNo)
+  ss = set (s .stacks) n (Stages.stackThen z s t n)
+
   abbrev after : Write → Tables
-  after w = Stages.apply z (withTasks s ts) w
+  after w = Stages.apply z (withOwn s ts ss) w
 
   abbrev pub s′ : Tables
   s′ = after (x .write)
 
   -- a row names what it named, or is the one that a swap has written
   row-then : (c : ChunkNo) (e : EntryNo) → Row z c e → RowKept z (entry z s c e) (entry z s′ c e) ⊎ Renamed z s t c e (entry z s′ c e)
-  row-then = row-step z lim s kept ts n (Living.acts z lim s kept n) (Living.allowed z lim s kept n)
+  row-then = row-step z lim s kept ts ss n (Living.acts z lim s kept n) (Living.allowed z lim s kept n)
 
   -- ---- a handle that is not the one that the step may swap in
   module _ (h : ℕ) (i : h < z .handles) (other : t .new .0 < z .handles → t .swapped ≡ 0 → h ≢ t .new .0) where

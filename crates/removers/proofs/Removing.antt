@@ -11,7 +11,7 @@ use Rattle.rules.specs.declared.Sizes.{Sizes}
 use Rattle.rules.specs.declared.Task.{Task}
 use Rattle.rules.specs.declared.Entry.{Entry}
 use Rattle.rules.specs.declared.Decision.{Decision}
-use Rattle.rules.specs.Words.{_and_, _or_, usesFunction, scan}
+use Rattle.rules.specs.Words.{_and_, _or_, usesFunction, scan, scanDown, isScan}
 use Rattle.rules.specs.Tables.{Tables, idleTask, task, putTask}
 use Rattle.rules.specs.Stages
 use Rattle.rules.specs.Rebalance.{Outcome, begins}
@@ -69,10 +69,10 @@ module _ (z : Sizes) (lim : Limited z) (s : Tables) (r : Reached z s) (rem : Rem
     t = task s n
 
     abbrev x : Decision
-    x = Stages.decide z s t
+    x = Stages.decide z s n t
 
     abbrev s′ : Tables
-    s′ = Stages.apply z (putTask s n (x .task)) (x .write)
+    s′ = Stages.apply z (Stages.putOwn z s n (x .task)) (x .write)
 
     rows : (m : ℕ) → RowOf s′ n (x .task) m
     rows = row-of s′ n (x .task) b (Living.applied z lim s kept n .tasks)
@@ -82,7 +82,7 @@ module _ (z : Sizes) (lim : Limited z) (s : Tables) (r : Reached z s) (rem : Rem
     here {h = h} o f to = ⊎-elim (λ (e : (n ≡ n) × (task s′ n ≡ x .task)). record { numbered = b; holds = rw (e .1) o; from = rw (e .1) f; to = rw (e .1) to }) (λ (e : (n ≢ n) × (task s′ n ≡ task s n)). absurd (e .0 refl)) (rows n)
 
     held-then : DeletedHeld z s′
-    held-then h i m v = ⊎-elim was (λ e. (n, here (e .1) (omega (arith, e .0)) (omega (arith, e .0)))) (mark-then z (putTask s n (x .task)) (x .task) (x .write) (decides-late z s t .sets) h m)
+    held-then h i m v = ⊎-elim was (λ e. (n, here (e .1) (omega (arith, e .0)) (omega (arith, e .0)))) (mark-then z (Stages.putOwn z s n (x .task)) (x .task) (x .write) (decides-late z s t n .sets) h m)
       where
         was : getD (s .marks) h 0 ≡ 1 → (n : ℕ) × Removes z s′ h n
         was d = by (rem .deleted-held h i d named)
@@ -112,8 +112,8 @@ module _ (z : Sizes) (lim : Limited z) (s : Tables) (r : Reached z s) (rem : Rem
   start-removers n op k a f =
       picked O (leb (z .tasks) n) (λ _. rem)
       (λ b. picked O (eqb (task s n .stage) 0)
-      (λ e. picked O (ltb op 1 or ltb 7 op or (usesFunction op and (ltb f 1 or ltb 3 f))) (λ _. rem)
-      (λ _. picked O (eqb op scan and ltb a k) (λ _. rem) (λ _. done (leb-false _ _ b) (eqb-true _ _ e))))
+      (λ e. picked O (ltb op 1 or ltb 8 op or (usesFunction op and (ltb f 1 or ltb 3 f))) (λ _. rem)
+      (λ _. picked O (isScan op and ltb a k) (λ _. rem) (λ _. done (leb-false _ _ b) (eqb-true _ _ e))))
       (λ _. rem))
     where
       O : Outcome → Type 0
@@ -126,7 +126,7 @@ module _ (z : Sizes) (lim : Limited z) (s : Tables) (r : Reached z s) (rem : Rem
       x = putTask s n (started z s op k a f)
 
       done : n < z .tasks → task s n .stage ≡ 0 → Removers z (putTask s n (started z s op k a f))
-      done b e = removers-by z x held (sees-row x n y rows (sees-none z x y (picked (λ (m : ℕ). 17 ≤ m → m ≤ 21 → ⊥) (eqb op scan) (λ _ p q. omega arith) (λ _ p q. omega arith))) (λ m. record { chunk = saw m .chunk; entry = saw m .entry; done = saw m .done }))
+      done b e = removers-by z x held (sees-row x n y rows (sees-none z x y (picked (λ (m : ℕ). 17 ≤ m → m ≤ 21 → ⊥) (eqb op scan) (λ _ p q. omega arith) (λ _. picked (λ (m : ℕ). 17 ≤ m → m ≤ 21 → ⊥) (eqb op scanDown) (λ _ p q. omega arith) (λ _ p q. omega arith)))) (λ m. record { chunk = saw m .chunk; entry = saw m .entry; done = saw m .done }))
         where
           rows : (m : ℕ) → RowOf x n y m
           rows = row-of x n y b refl

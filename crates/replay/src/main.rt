@@ -5,8 +5,9 @@ use rules::Directory;
 use script::Asked;
 use script::Line;
 
-// How many words the lent tables have.
-pub const TASKS_LENGTH: usize = Directory::TASKS * rows::TASK_WORDS;
+// How many words the lent tables have; a task's stack stands after every task's row.
+pub const TASKS_LENGTH: usize = Directory::TASKS * rows::TASK_WORDS
+    + Directory::TASKS * Directory::ENTRIES;
 
 pub const CHUNKS_LENGTH: usize = Directory::CHUNKS * rows::CHUNK_WORDS;
 

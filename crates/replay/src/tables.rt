@@ -78,6 +78,44 @@ fn is_told(value: u64, mark: u64) -> bool {
     mark != 0
 }
 
+// Word e of task i's stack.
+fn stack_word(tasks: &[u64; TASKS_LENGTH], i: usize, e: usize) -> u64
+    requires { ⌜ (i < limits .tasks) × (e < limits .entries) ⌝ }
+{
+    let x = rows::stack_at(Directory::sizes(), tasks, i, e);
+    x.0
+}
+
+// The entries on task i's stack, the top last; the first word that is none ends it.
+fn stack_entries(out: &mut [u8; 65536], at: usize, i: usize, tasks: &[u64; TASKS_LENGTH]) -> usize
+    requires { ⌜ i < limits .tasks ⌝ }
+{
+    let mut n = at;
+    let mut e = 0;
+    while e < Directory::ENTRIES {
+        let x = stack_word(tasks, i, e);
+        if x == rules::NONE {
+            return n;
+        }
+        n = script::stack_entry(out, n, x);
+        e += 1;
+    }
+    n
+}
+
+// Task i's stack has a line where there are entries on it.
+fn stack(out: &mut [u8; 65536], at: usize, i: usize, tasks: &[u64; TASKS_LENGTH]) -> usize
+    requires { ⌜ i < limits .tasks ⌝ }
+{
+    if stack_word(tasks, i, 0) == rules::NONE {
+        return at;
+    }
+    let n = room(out, at);
+    let n = script::stack_begins(out, n, i as u64);
+    let n = stack_entries(out, n, i, tasks);
+    script::stack_ends(out, n)
+}
+
 fn all_tasks(out: &mut [u8; 65536], at: usize, tasks: &[u64; TASKS_LENGTH]) -> usize {
     let mut n = at;
     let mut i = 0;
@@ -86,6 +124,7 @@ fn all_tasks(out: &mut [u8; 65536], at: usize, tasks: &[u64; TASKS_LENGTH]) -> u
         if t.stage != 0 {
             n = room(out, n);
             n = script::task_line(out, n, i as u64, t);
+            n = stack(out, n, i, tasks);
         }
         i += 1;
     }

@@ -22,6 +22,13 @@ ne-lt-or-lt a b n = go (decLt a b)
 pub row-below : (m n c e : ℕ) → c < m → e < n → c * n + e < m * n
 row-below m n c e h k = omega (arith, mul-le-mul-right n h, suc-mul c n)
 
+-- words of different rows differ
+pub rows-differ : (n c d e f : ℕ) → c ≢ d → e < n → f < n → c * n + e ≢ d * n + f
+rows-differ n c d e f h k l q = ⊎-elim (below c d e f k q) (below d c f e l (sym q)) (ne-lt-or-lt c d h)
+  where
+    below : (a b i j : ℕ) → i < n → a * n + i ≡ b * n + j → a < b → ⊥
+    below a b i j p q r = omega (arith, mul-le-mul-right n r, suc-mul a n)
+
 -- all entries of chunk c
 pub rows-below : (m n c : ℕ) → c < m → c * n + n ≤ m * n
 rows-below m n c h = omega (arith, mul-le-mul-right n h, suc-mul c n)
@@ -42,6 +49,10 @@ module _ {A : Type 0} where
   -- the row that is read is the row
   pub row-read : (f : ℕ → A) (n j : ℕ) (d : A) → j < n → getD (rowsFrom f 0 n) j d ≡ f j
   row-read f n j d h = from f 0 n j d h ∙ ap f (zero-add j)
+
+  -- a row of tables that are the same
+  pub row-same : (f g : ℕ → A) (n j : ℕ) (d : A) → j < n → rowsFrom f 0 n ≡ rowsFrom g 0 n → f j ≡ g j
+  row-same f g n j d h e = sym (row-read f n j d h) ∙ ap (λ (l : List A). getD l j d) e ∙ row-read g n j d h
 
   -- the rows from i on, of n
   pub rows-step : (f : ℕ → A) (n i : ℕ) → i < n → rowsFrom f i (n - i) ≡ f i ∷ rowsFrom f (i + 1) (n - (i + 1))
@@ -130,7 +141,8 @@ module _ (w : ℕ) (ws vs : List ℕ) (i : ℕ) (wide : length vs ≡ w) (fits :
       ∙ List·getD-append (take (i * w) ws) (vs ++ drop (i * w + w) ws) 0 n (rw long h)
       ∙ getD-take (i * w) ws n 0 h
 
-  behind : (n : ℕ) → getD (sets ws (i * w) vs) (i * w + (w + n)) 0 ≡ getD ws (i * w + w + n) 0
+  -- a word past the row
+  pub behind : (n : ℕ) → getD (sets ws (i * w) vs) (i * w + (w + n)) 0 ≡ getD ws (i * w + w + n) 0
   unfolding after
   behind n =
       ap (λ (l : List ℕ). getD l (i * w + (w + n)) 0) split

@@ -1,21 +1,22 @@
 -- What a contract says of the slices that a call is lent.
-use Prim.Native.Nat.{ℕ, _*_, _<_}
+use Prim.Native.Nat.{ℕ, _+_, _*_, _<_}
 use mathlib.Core.Path.{_≡_}
-use mathlib.Core.List.{List}
-use lib.ListN.{length}
+use mathlib.Core.List.{List, []}
+use lib.ListN.{length, getD, set}
 use denote.Ref.{RefT}
 use denote.Triple.Both.{Both}
 use Rattle.rules.specs.declared.Sizes.{Sizes}
+use Rattle.rules.specs.declared.Task.{Task}
 use Rattle.rules.specs.declared.ChunkNo.{ChunkNo}
 use Rattle.rules.specs.declared.EntryNo.{EntryNo}
 use Rattle.rules.specs.Tables.{Tables}
-pub use Rattle.rules.specs.Layout.{directoryOf, taskOf, chunkOf, entryOf, taskRows, chunkRows, entryRows, tables}
+pub use Rattle.rules.specs.Layout.{directoryOf, taskOf, chunkOf, entryOf, taskRows, chunkRows, entryRows, stackOf, stackRows, tables}
 unfoldable pub use Rattle.rules.specs.Layout.{rowsFrom}
 
 -- each table has the words that the sizes ask
 pub record Lent (z : Sizes) (d ts cs es vs ms : List ℕ) : Type 0 where
   pub directory : length d ≡ 5
-  pub tasks : length ts ≡ z .tasks * 11
+  pub tasks : length ts ≡ z .tasks * 11 + z .tasks * z .entries
   pub chunks : length cs ≡ z .chunks * 6
   pub entries : length es ≡ z .chunks * z .entries * 3
   pub values : length vs ≡ z .handles
@@ -49,3 +50,19 @@ pub record Numbers (z : Sizes) (es : List ℕ) (c : ChunkNo) (e : EntryNo) : Typ
   pub chunk : c .0 < z .chunks
   pub entry : e .0 < z .entries
   pub long : length es ≡ z .chunks * z .entries * 3
+
+-- task i's row is written in the tasks' table: the other rows stay, and every stack
+pub record TaskPut (before after : List ℕ) (i : ℕ) (x : Task) : Type 0 where
+  pub rows : (n : ℕ) → taskRows n after ≡ set (taskRows n before) i x
+  pub stacks : (z : Sizes) → i < z .tasks → stackRows z after ≡ stackRows z before
+
+-- a word of a stack: of a task of the table, and of as many as a chunk has entries
+pub record StackWord (z : Sizes) (ts : List ℕ) (n i : ℕ) : Type 0 where
+  pub task : n < z .tasks
+  pub entry : i < z .entries
+  pub long : length ts ≡ z .tasks * 11 + z .tasks * z .entries
+
+-- word i of task n's stack is written: its other words stay, every other stack, and every task's row
+pub record StackPut (z : Sizes) (before after : List ℕ) (n i : ℕ) (e : EntryNo) : Type 0 where
+  pub stacks : stackRows z after ≡ set (stackRows z before) n (set (getD (stackRows z before) n []) i e)
+  pub rows : taskRows (z .tasks) after ≡ taskRows (z .tasks) before

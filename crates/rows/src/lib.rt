@@ -11,9 +11,11 @@ use rules::Sizes;
 use rules::Task;
 ghost use mathlib.Core.Path.{_≡_};
 ghost use Prim.Native.Nat.{ℕ, _+_, _*_, _^_, _<_, _≤_};
+ghost use mathlib.Core.List.{[]};
 ghost use lib.ListN.{length, set, getD};
+ghost use Rattle.rules.specs.Words.{noEntry};
 ghost use Rattle.rules.specs.Tables.{idleTask, emptyChunk, emptyEntry, row, chunkAt, entryAt};
-ghost use Rattle.rows.specs.Rows.{directoryOf, taskOf, chunkOf, entryOf, taskRows, chunkRows, entryRows, Numbers};
+ghost use Rattle.rows.specs.Rows.{directoryOf, taskOf, chunkOf, entryOf, chunkRows, entryRows, stackRows, Numbers, TaskPut, StackWord, StackPut};
 
 // How many words a row has: the directory's own, a task's, a chunk's, an entry's.
 pub const DIRECTORY_WORDS: usize = 5;
@@ -72,7 +74,7 @@ pub fn task_row(words: &[u64], i: usize) -> Task
 
 pub fn put_task_row(words: &mut [u64], i: usize, x: Task)
     requires { ⌜ i * 11 + 11 ≤ length (now words) ⌝ }
-    ensures { λ _. ⌜ ((n : ℕ) → taskRows n (now (words .exit)) ≡ set (taskRows n (now (words .entry))) i x) ⌝ }
+    ensures { λ _. ⌜ TaskPut (now (words .entry)) (now (words .exit)) i x ⌝ }
 {
     let at = i * TASK_WORDS;
     words[at] = x.stage;
@@ -240,6 +242,31 @@ pub fn put_entry(z: Sizes, entries: &mut [u64], c: ChunkNo, e: EntryNo, x: Entry
 {
     let i = entry_number(z, c, e);
     put_entry_row(entries, i, x);
+}
+
+// The number of a stack's word: the stacks stand after every task's row.
+pub fn stack_number(z: Sizes, n: usize, i: usize) -> usize
+    requires { ⌜ (n < z .tasks) × (i < z .entries) × (z .tasks * 11 + z .tasks * z .entries < 2 ^ 64) ⌝ }
+    ensures { λ r. ⌜ (r ≡ z .tasks * 11 + (n * z .entries + i)) × (r < z .tasks * 11 + z .tasks * z .entries) ⌝ }
+{
+    z.tasks * TASK_WORDS + (n * z.entries + i)
+}
+
+// Word `i` of task `n`'s stack.
+pub fn stack_at(z: Sizes, tasks: &[u64], n: usize, i: usize) -> EntryNo
+    requires { ⌜ StackWord z (now tasks) n i ⌝ }
+    ensures { λ r. ⌜ r ≡ getD (getD (stackRows z (now (tasks .entry))) n []) i noEntry ⌝ }
+{
+    let at = stack_number(z, n, i);
+    EntryNo(tasks[at])
+}
+
+pub fn put_stack_at(z: Sizes, tasks: &mut [u64], n: usize, i: usize, e: EntryNo)
+    requires { ⌜ StackWord z (now tasks) n i ⌝ }
+    ensures { λ _. ⌜ StackPut z (now (tasks .entry)) (now (tasks .exit)) n i e ⌝ }
+{
+    let at = stack_number(z, n, i);
+    tasks[at] = e.0;
 }
 
 // A handle's value, or its mark; a number past the table reads as 0.

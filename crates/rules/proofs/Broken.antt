@@ -6,12 +6,12 @@ use mathlib.Core.List.{List, [], _∷_, map, List·Memᴰ, List·Memᴰ·not-nil
 use Rattle.rules.specs.declared.Report.the-variants as report
 use Rattle.rules.specs.Words.{pick, _and_, limits}
 use Rattle.rules.specs.Tables.{Tables}
-use Rattle.rules.specs.Walks.{locateFrom, beforeFrom, listFrom, findFrom, placeFrom, presentFrom, namedIn, heldIn, freeFrom}
+use Rattle.rules.specs.Walks.{locateFrom, beforeFrom, listFrom, findFrom, placeFrom, presentFrom, withinFrom, depth, over, namedIn, heldIn, freeFrom}
 use Rattle.rules.specs.Stages.{stageDoes}
 use Rattle.rules.specs.Rebalance.{gives, unusedCount, unusedFrom, publishedOn, heldChunk, namingFrom, fill, clears, rebalanceDoes}
-use Rattle.rules.specs.Shape.{each, liveCount, ascendsFrom, chainCount, linkedFrom, chained, taskRight, rebalanceFits, shape}
+use Rattle.rules.specs.Shape.{each, liveCount, ascendsFrom, chainCount, linkedFrom, risesFrom, chained, taskRight, stackRight, rebalanceFits, shape}
 use Rattle.rules.specs.Calls.{Call, does, calls}
-use Rattle.rules.specs.Unbroken.{after, steps, stores, stored, inserting, removing, mixed, rebalancing, liveRows, soundTables}
+use Rattle.rules.specs.Unbroken.{after, steps, stores, stored, inserting, removing, mixed, scanning, rebalancing, liveRows, soundTables}
 use Rattle.rules.specs.Broken.{brokenTables}
 use Rattle.rules.proofs.Tests.{pick-same}
 
@@ -19,8 +19,9 @@ use Rattle.rules.proofs.Tests.{pick-same}
 abbrev last : Tables → Bool
 last s =
     let tasks = each (taskRight limits s) 0 (s .tasks) in
+    let stacks = each (stackRight limits s) 0 (s .tasks) in
     let rebalance = rebalanceFits limits s in
-    chained limits s and tasks and rebalance
+    chained limits s and tasks and stacks and rebalance
 
 abbrev lastThenAll : Tables → Bool
 lastThenAll s = let all = shape limits s in pick (last s) all false
@@ -36,9 +37,14 @@ then-false s h = go (last s) (last-false s) h
     go true f e = e
     go false f e = f refl
 
+-- to unfold this is to unfold every rule that computes
+unfoldable pub everyRule : Bool
+unfolding does shape each liveCount ascendsFrom chainCount linkedFrom risesFrom stageDoes rebalanceDoes locateFrom beforeFrom listFrom findFrom placeFrom presentFrom withinFrom depth over namedIn heldIn freeFrom unusedCount unusedFrom publishedOn heldChunk namingFrom fill clears
+everyRule = true
+
 -- ---- by computing: the broken ones first, so that a shape without one of its clauses fails there
 pub judged : (map lastThenAll brokenTables ≡ map (λ s. false) brokenTables) × (map (shape limits) soundTables ≡ map (λ s. true) soundTables)
-unfolding brokenTables soundTables after steps stores stored inserting removing mixed rebalancing liveRows does shape each liveCount ascendsFrom chainCount linkedFrom stageDoes rebalanceDoes locateFrom beforeFrom listFrom findFrom placeFrom presentFrom namedIn heldIn freeFrom unusedCount unusedFrom publishedOn heldChunk namingFrom fill clears
+unfolding brokenTables soundTables after steps stores stored inserting removing mixed scanning rebalancing liveRows everyRule
 judged = (refl, refl)
 
 -- ---- for each table of the list

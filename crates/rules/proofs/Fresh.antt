@@ -1,17 +1,18 @@
 -- Fresh tables have the shape.
-use Prim.Native.Nat.{ℕ, zero, suc, _+_, _*_, _-_, _≤_, min}
+use Prim.Native.Nat.{ℕ, zero, suc, _+_, _*_, _-_, _≤_, _<_, min}
 use mathlib.Core.Path.{_≡_, refl, _∙_}
 use mathlib.Core.Bool.{true}
-use native.Mathlib.Nat.{zero-min, min-zero, suc-min-suc, sub-zero, zero-sub, suc-sub-suc, not-suc-le-zero}
+use mathlib.Core.List.{[]}
+use native.Mathlib.Nat.{zero-min, min-zero, suc-min-suc, sub-zero, zero-sub, suc-sub-suc, not-suc-le-zero, le-of-suc-le-suc}
 use native.Mathlib.Omega.{arith}
 use lib.Dec.{eqb, leb, leb·zero}
-use lib.ListN.{set, take, drop, replicate, length-replicate, length-set}
+use lib.ListN.{length, getD, set, take, drop, replicate, length-replicate, length-set}
 use borrow.Author.Tests.{lt-ltb, le-ltb, eq-eqb, ne-eqb}
 use Rattle.rules.specs.declared.Sizes.{Sizes}
 use Rattle.rules.specs.Words.{_and_, NONE, chunkNo, noEntry, live}
-use Rattle.rules.specs.Tables.{emptyChunk, emptyEntry, idleTask, chunkAt}
+use Rattle.rules.specs.Tables.{emptyChunk, emptyEntry, emptyStack, idleTask, chunkAt, stack}
 use Rattle.rules.specs.Rebalance.{withStatus}
-use Rattle.rules.specs.Shape.{each, shape, slotRight, slotsOf, chunkRight, chunkFits, taskRight, ascendsFrom, chainCount, liveCount, sized, chained}
+use Rattle.rules.specs.Shape.{each, shape, slotRight, slotsOf, chunkRight, chunkFits, taskRight, stackRight, isNone, allNone, ascendsFrom, chainCount, liveCount, sized, chained}
 use Rattle.rules.specs.Calls.{fresh}
 use Rattle.rules.proofs.Tests.{both, pick-same}
 use Rattle.rules.proofs.Each.{each-replicate, each-set}
@@ -27,6 +28,11 @@ pub drop-replicate {ℓ} : {A : Type ℓ} (n m : ℕ) (a : A) → drop n (replic
 drop-replicate zero m a = rw sub-zero
 drop-replicate (suc n) zero a = rw zero-sub
 drop-replicate (suc n) (suc m) a = rw (suc-sub-suc, drop-replicate n m a)
+
+pub getD-replicate {ℓ} : {A : Type ℓ} (m n : ℕ) (a d : A) → n < m → getD (replicate m a) n d ≡ a
+getD-replicate zero n a d b = absurd (not-suc-le-zero b)
+getD-replicate (suc m) zero a d b = refl
+getD-replicate (suc m) (suc n) a d b = getD-replicate m n a d (le-of-suc-le-suc b)
 
 -- ---- chunks
 module _ (z : Sizes) where
@@ -75,7 +81,14 @@ module _ (z : Sizes) where
       both _ _ (eq-eqb _ _ (length-replicate (z .tasks) idleTask))
       (both _ _ (eq-eqb _ _ (length-set (replicate (z .chunks) emptyChunk) 0 (withStatus emptyChunk live) ∙ length-replicate (z .chunks) emptyChunk))
       (both _ _ (eq-eqb _ _ (length-replicate (z .chunks * z .entries) emptyEntry))
-      (both _ _ (eq-eqb _ _ (length-replicate {A = ℕ} (z .handles) 0)) (eq-eqb _ _ (length-replicate {A = ℕ} (z .handles) 0)))))
+      (both _ _ (eq-eqb _ _ (length-replicate {A = ℕ} (z .handles) 0))
+      (both _ _ (eq-eqb _ _ (length-replicate {A = ℕ} (z .handles) 0))
+      (both _ _ (eq-eqb _ _ (length-replicate (z .tasks) (emptyStack z)))
+      (each-replicate (λ n w. eqb (length w) (z .entries)) 0 (z .tasks) (emptyStack z) (λ i b. eq-eqb _ _ (length-replicate (z .entries) noEntry))))))))
+
+  -- nothing is on a stack
+  fresh-stack : (n : ℕ) → n < z .tasks → allNone (stack (fresh z) n) ≡ true
+  fresh-stack n b = rw (getD-replicate (z .tasks) n (emptyStack z) [] b) (each-replicate (λ n e. isNone (e .0)) 0 (z .entries) noEntry (λ i b. refl))
 
   pub fresh-shape : 1 ≤ z .chunks → z .chunks ≤ NONE → shape z (fresh z) ≡ true
   fresh-shape one le =
@@ -86,5 +99,6 @@ module _ (z : Sizes) where
         chunks = fresh-chunks;
         chain = fresh-chain one;
         tasks = each-replicate (taskRight z (fresh z)) 0 (z .tasks) idleTask (λ i b. refl);
+        stacks = each-replicate (stackRight z (fresh z)) 0 (z .tasks) idleTask (λ i b. fresh-stack (0 + i) (omega (arith, b)));
         rebalance = fresh-fits le;
       })

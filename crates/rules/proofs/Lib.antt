@@ -1,4 +1,5 @@
 pub mod Broken
+pub mod Staged
 pub mod Marked
 pub mod Tests
 pub mod Each

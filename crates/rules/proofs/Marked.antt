@@ -1,16 +1,68 @@
--- M1 to M12, and three cases more, hold of the rules, at document 01's sizes.
-use mathlib.Core.Path.{_≡_, refl}
-use mathlib.Core.List.{map}
+-- M1 to M12, the cases beside them and those of scans down hold of the rules, at document 01's sizes: by computing, the longest two in stages.
+use mathlib.Core.Path.{_≡_, refl, _∙_, sym}
+use mathlib.Core.List.{List, _++_, map}
+use borrow.Table.Elements.{map-app}
 use Rattle.rules.specs.Words.{limits}
-use Rattle.rules.specs.Walks.{locateFrom, beforeFrom, listFrom, findFrom, placeFrom, presentFrom, namedIn, heldIn, freeFrom}
-use Rattle.rules.specs.Stages.{stageDoes}
-use Rattle.rules.specs.Rebalance.{unusedCount, unusedFrom, publishedOn, heldChunk, namingFrom, fill, clears, rebalanceDoes}
-use Rattle.rules.specs.Shape.{each, liveCount, ascendsFrom, chainCount, linkedFrom, shape}
 use Rattle.rules.specs.Calls.{fresh, does}
-use Rattle.rules.specs.Cases.{says, runs, moves, puts, markedCases}
-use Rattle.rules.proofs.Broken.{judged}
+use Rattle.rules.specs.Cases.{Line, says, runs, moves, putsOn, falls, emptyDown, retiredDown, inOne, inTwo, inThree, scansAll, scansRange, wholeDown, rangeDown, baseCases, downCases, markedCases}
+use Rattle.rules.proofs.Broken.{everyRule, judged}
+use Rattle.rules.proofs.Staged.{Holds, Stage, leftBy, then-holds, rowsFrom, one, two, three}
 
--- what the rules say of each case, line by line, is what the case says; the shape that the cases ask for is judged first
+-- what the rules say of each case of the list is what the case says
+abbrev AllHold : List (List Line) → Type 0
+AllHold l = map (runs does (fresh limits)) l ≡ map (map says) l
+
+both-hold : (l m : List (List Line)) → AllHold l → AllHold m → AllHold (l ++ m)
+both-hold l m h g = map-app (runs does (fresh limits)) l m ∙ rw (h, g) (sym (map-app (map says) l m))
+
+-- ---- by computing: the shape that the cases ask for is judged first
+base : AllHold baseCases
+unfolding everyRule runs moves putsOn
+base = let judge = judged in refl
+
+-- those of scans down, the longer two in stages
+emptyHolds : Holds (fresh limits) emptyDown
+unfolding everyRule runs moves
+emptyHolds = let judge = judged in refl
+
+retiredHolds : Holds (fresh limits) retiredDown
+unfolding everyRule runs moves putsOn
+retiredHolds = let judge = judged in refl
+
+inOneStage : Stage (fresh limits) inOne one
+unfolding everyRule runs leftBy rowsFrom moves putsOn
+inOneStage = let judge = judged in (refl, refl)
+
+inTwoStage : Stage one inTwo two
+unfolding everyRule runs leftBy rowsFrom moves putsOn
+inTwoStage = let judge = judged in (refl, refl)
+
+rangeHolds : Holds two scansRange
+unfolding everyRule runs rowsFrom moves falls
+rangeHolds = let judge = judged in refl
+
+inThreeStage : Stage two inThree three
+unfolding everyRule runs leftBy rowsFrom moves putsOn
+inThreeStage = let judge = judged in (refl, refl)
+
+allHolds : Holds three scansAll
+unfolding everyRule runs rowsFrom moves falls
+allHolds = let judge = judged in refl
+
+-- ---- the cases, of their stages
+-- what follows the keys 1 to 17 in two chunks
+after-two : (l : List Line) → Holds two l → Holds (fresh limits) (inOne ++ (inTwo ++ l))
+after-two l h = then-holds (fresh limits) one inOne (inTwo ++ l) inOneStage (then-holds one two inTwo l inTwoStage h)
+
+whole : Holds (fresh limits) wholeDown
+whole = after-two (inThree ++ scansAll) (then-holds two three inThree scansAll inThreeStage allHolds)
+
+range : Holds (fresh limits) rangeDown
+range = after-two scansRange rangeHolds
+
+down : AllHold downCases
+down = rw (emptyHolds, retiredHolds, whole, range)
+
+-- what the rules say of each case, line by line, is what the case says
 pub marked : map (runs does (fresh limits)) markedCases ≡ map (map says) markedCases
-unfolding runs moves puts does shape each liveCount ascendsFrom chainCount linkedFrom stageDoes rebalanceDoes locateFrom beforeFrom listFrom findFrom placeFrom presentFrom namedIn heldIn freeFrom unusedCount unusedFrom publishedOn heldChunk namingFrom fill clears
-marked = let judge = judged in refl
+marked = both-hold baseCases downCases base down

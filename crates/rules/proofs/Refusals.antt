@@ -3,17 +3,20 @@ use Prim.Native.Nat.{ℕ, _≤_}
 use mathlib.Core.Path.{_≡_, refl, sym, ap, _∙_}
 use mathlib.Core.Logic.{_≢_}
 use mathlib.Core.Bool.{Bool, true, false, not, true≢false}
+use mathlib.Core.List.{List, []}
 use native.Mathlib.Omega.{arith}
 use lib.Dec.{eqb, ltb, leb}
+use lib.ListN.{set}
+use lib.Seq.{set-getD}
 use borrow.Author.Tests.{eqb-false}
 use Rattle.rules.specs.declared.Sizes.{Sizes}
-use Rattle.rules.specs.declared.Task.{Task}
+use Rattle.rules.specs.declared.EntryNo.{EntryNo}
 use Rattle.rules.specs.declared.Decision.{Decision}
 use Rattle.rules.specs.declared.Report.{Report}
 use Rattle.rules.specs.declared.Report.the-variants.{Moved, Frozen, Full, Lost, Pair, Value, Absent, Done, True, False, Waiting, Finished, Refused}
-use Rattle.rules.specs.Words.{pick, _and_, _or_, NONE, scan, usesFunction, idle}
-use Rattle.rules.specs.Tables.{Tables, task, putTask}
-use Rattle.rules.specs.Stages.{stageDoes, apply, takesHandle}
+use Rattle.rules.specs.Words.{pick, _and_, _or_, NONE, isScan, usesFunction, idle}
+use Rattle.rules.specs.Tables.{Tables, idleTask, withStacks, task, putTask, stack}
+use Rattle.rules.specs.Stages.{stageDoes, stackThen, putOwn, apply, takesHandle}
 use Rattle.rules.specs.Rebalance.{Outcome, gives, rebalanceDoes, unusedCount}
 use Rattle.rules.specs.Shape.{shape}
 use Rattle.rules.specs.Calls.{Call, calls, does}
@@ -85,8 +88,8 @@ module _ (z : Sizes) (s : Tables) where
   start-answers n op k a f =
       where-true s _ (leb (z .tasks) n) 1 _ _ (omega arith) (omega arith) λ e.
       where-false s _ (eqb (task s n .stage) 0) 2 _ _ (omega arith) (omega arith) λ e.
-      rw (outside 1 7 op, outside 1 3 f, or-assoc) (where-true s _ (ltb op 1 or ltb 7 op or (usesFunction op and (ltb f 1 or ltb 3 f))) 5 _ _ (omega arith) (omega arith) λ e.
-      where-true s _ (eqb op scan and ltb a k) 4 _ _ (omega arith) (omega arith) λ e. done s _ _ refl)
+      rw (outside 1 8 op, outside 1 3 f, or-assoc) (where-true s _ (ltb op 1 or ltb 8 op or (usesFunction op and (ltb f 1 or ltb 3 f))) 5 _ _ (omega arith) (omega arith) λ e.
+      where-true s _ (isScan op and ltb a k) 4 _ _ (omega arith) (omega arith) λ e. done s _ _ refl)
 
   begin-answers : (k : ℕ) → RefusedBy s (begin k) (refusal (occasionsOf z s (begin k))) (does z s (begin k))
   unfolding refusal does
@@ -108,52 +111,60 @@ module _ (z : Sizes) (s : Tables) where
 
   -- a step's outcome, of what its stage decides
   abbrev stepped : ℕ → Decision → Outcome
-  stepped m x = gives (apply z (putTask s m (x .task)) (x .write)) (x .report)
+  stepped m x = gives (apply z (putOwn z s m (x .task)) (x .write)) (x .report)
+
+  -- a task elsewhere than at 23 keeps its stack
+  stack-stays : (m n : ℕ) → task s m .stage ≡ n → eqb n 23 ≡ false → stackThen z s (task s m) m ≡ stack s m
+  stack-stays m n e other = rw (e, other)
 
   -- "stage 8 with no free handle"
-  eighth-answers : z .handles ≤ NONE → (m : ℕ) (t : Task) → RefusedBy s (step m) (pick (noneFree (s .entries) (s .tasks) (z .handles)) 9 0) (stepped m (takesHandle z s t))
-  eighth-answers le m t = go (noneFree (s .entries) (s .tasks) (z .handles)) refl
+  eighth-answers : z .handles ≤ NONE → (m : ℕ) → task s m .stage ≡ 8 → RefusedBy s (step m) (pick (noneFree (s .entries) (s .tasks) (z .handles)) 9 0) (stepped m (takesHandle z s (task s m)))
+  eighth-answers le m e = go (noneFree (s .entries) (s .tasks) (z .handles)) refl
     where
-      go : (b : Bool) → noneFree (s .entries) (s .tasks) (z .handles) ≡ b → RefusedBy s (step m) (pick (noneFree (s .entries) (s .tasks) (z .handles)) 9 0) (stepped m (takesHandle z s t))
-      go true e =
-          rw (takes-free z s le, e)
-          (record { returns = λ a. refl; accepts = λ a. absurd (omega arith); leaves = λ a b. absurd (b refl); idles = λ a. (m, refl, refl) })
-      go false e = rw (takes-free z s le, e) (done s (step m) _ refl)
+      own : putOwn z s m idleTask ≡ putTask s m idleTask
+      own = ap (λ (w : List (List EntryNo)). withStacks (putTask s m idleTask) w) (ap (λ (w : List EntryNo). set (s .stacks) m w) (stack-stays m 8 e refl) ∙ set-getD (s .stacks) m [])
 
-  stage-answers : z .handles ≤ NONE → (m : ℕ) (t : Task) (n : ℕ) → n ≤ 22 → n ≢ 0 → RefusedBy s (step m) (pick (eqb n 8 and noneFree (s .entries) (s .tasks) (z .handles)) 9 0) (stepped m (stageDoes n z s t))
+      go : (b : Bool) → noneFree (s .entries) (s .tasks) (z .handles) ≡ b → RefusedBy s (step m) (pick (noneFree (s .entries) (s .tasks) (z .handles)) 9 0) (stepped m (takesHandle z s (task s m)))
+      go true b =
+          rw (takes-free z s le, b)
+          (record { returns = λ a. refl; accepts = λ a. absurd (omega arith); leaves = λ a b. absurd (b refl); idles = λ a. (m, refl, own) })
+      go false b = rw (takes-free z s le, b) (done s (step m) _ refl)
+
+  stage-answers : z .handles ≤ NONE → (m n : ℕ) → n ≤ 23 → n ≢ 0 → task s m .stage ≡ n → RefusedBy s (step m) (pick (eqb n 8 and noneFree (s .entries) (s .tasks) (z .handles)) 9 0) (stepped m (stageDoes n m z s (task s m)))
   unfolding stageDoes
-  stage-answers le m t =
-      stage-cases (λ n. n ≢ 0 → RefusedBy s (step m) (pick (eqb n 8 and noneFree (s .entries) (s .tasks) (z .handles)) 9 0) (stepped m (stageDoes n z s t)))
+  stage-answers le m =
+      stage-cases (λ n. n ≢ 0 → task s m .stage ≡ n → RefusedBy s (step m) (pick (eqb n 8 and noneFree (s .entries) (s .tasks) (z .handles)) 9 0) (stepped m (stageDoes n m z s (task s m))))
       (λ a. absurd (a refl))
-      (λ a. done s (step m) _ refl)
-      (λ a. done s (step m) _ (simp spoken))
-      (λ a. done s (step m) _ (simp spoken))
-      (λ a. done s (step m) _ (simp spoken))
-      (λ a. done s (step m) _ (simp spoken))
-      (λ a. done s (step m) _ (simp spoken))
-      (λ a. done s (step m) _ (simp spoken))
-      (λ a. eighth-answers le m t)
-      (λ a. done s (step m) _ refl)
-      (λ a. done s (step m) _ (simp spoken))
-      (λ a. done s (step m) _ (simp spoken))
-      (λ a. done s (step m) _ (simp spoken))
-      (λ a. done s (step m) _ (simp spoken))
-      (λ a. done s (step m) _ (simp spoken))
-      (λ a. done s (step m) _ (simp spoken))
-      (λ a. done s (step m) _ refl)
-      (λ a. done s (step m) _ (simp spoken))
-      (λ a. done s (step m) _ (simp spoken))
-      (λ a. done s (step m) _ (simp spoken))
-      (λ a. done s (step m) _ (simp spoken))
-      (λ a. done s (step m) _ refl)
-      (λ a. done s (step m) _ (simp spoken))
+      (λ a e. done s (step m) _ refl)
+      (λ a e. done s (step m) _ (simp spoken))
+      (λ a e. done s (step m) _ (simp spoken))
+      (λ a e. done s (step m) _ (simp spoken))
+      (λ a e. done s (step m) _ (simp spoken))
+      (λ a e. done s (step m) _ (simp spoken))
+      (λ a e. done s (step m) _ (simp spoken))
+      (λ a. eighth-answers le m)
+      (λ a e. done s (step m) _ refl)
+      (λ a e. done s (step m) _ (simp spoken))
+      (λ a e. done s (step m) _ (simp spoken))
+      (λ a e. done s (step m) _ (simp spoken))
+      (λ a e. done s (step m) _ (simp spoken))
+      (λ a e. done s (step m) _ (simp spoken))
+      (λ a e. done s (step m) _ (simp spoken))
+      (λ a e. done s (step m) _ refl)
+      (λ a e. done s (step m) _ (simp spoken))
+      (λ a e. done s (step m) _ (simp spoken))
+      (λ a e. done s (step m) _ (simp spoken))
+      (λ a e. done s (step m) _ (simp spoken))
+      (λ a e. done s (step m) _ refl)
+      (λ a e. done s (step m) _ (simp spoken))
+      (λ a e. done s (step m) _ (simp spoken))
 
   step-answers : z .handles ≤ NONE → shape z s ≡ true → (n : ℕ) → RefusedBy s (step n) (refusal (occasionsOf z s (step n))) (does z s (step n))
   unfolding refusal does
   step-answers le h n =
       where-true s _ (leb (z .tasks) n) 1 _ _ (omega arith) (omega arith) λ e.
       where-true s _ (eqb (task s n .stage) 0) 3 _ _ (omega arith) (omega arith) λ e.
-      stage-answers le n (task s n) (task s n .stage) (stage-known z s h n) (eqb-false _ _ e)
+      stage-answers le n (task s n .stage) (stage-known z s h n) (eqb-false _ _ e) refl
 
   call-answers : z .handles ≤ NONE → shape z s ≡ true → (c : Call) → RefusedBy s c (refusal (occasionsOf z s c)) (does z s c)
   call-answers le h (start n op k a f) = start-answers n op k a f

@@ -2,16 +2,16 @@
 -- A change is of one row, or of two where one alone would break another clause too; a number past its table is no live chunk or used entry either.
 use Prim.Native.Nat.{ℕ}
 use mathlib.Core.List.{List, [], _∷_, _++_, map}
-use lib.ListN.{take, replicate}
+use lib.ListN.{take, replicate, set}
 use Rattle.rules.specs.declared.Task.{Task}
 use Rattle.rules.specs.declared.Chunk.{Chunk}
 use Rattle.rules.specs.declared.Entry.{Entry}
-use Rattle.rules.specs.Words.{limits, NONE, chunkNo, entryNo, handleNo, unused, new, retired, get, put, putIfAbsent, upsert, compute, remove, scan, idle, toDrain, toSwap, toRelease}
-use Rattle.rules.specs.Tables.{Tables, idleTask, emptyEntry, withDirectory, withTasks, withChunks, withEntries, withValues, withMarks, task, putTask, chunk, putChunk, entry, putEntry, putMark}
+use Rattle.rules.specs.Words.{limits, NONE, chunkNo, entryNo, handleNo, noEntry, unused, new, retired, get, put, putIfAbsent, upsert, compute, remove, scan, scanDown, idle, toDrain, toSwap, toRelease}
+use Rattle.rules.specs.Tables.{Tables, idleTask, emptyEntry, withDirectory, withTasks, withChunks, withEntries, withValues, withMarks, withStacks, emptyStack, task, putTask, stack, putStack, chunk, putChunk, entry, putEntry, putMark}
 use Rattle.rules.specs.Stages.{goesTo, keeps, cursorAt, withNext, withHandle, withHead}
 use Rattle.rules.specs.Rebalance.{withStatus, withNextChunk}
 use Rattle.rules.specs.Calls.{fresh}
-use Rattle.rules.specs.Unbroken.{stored, inserting, removing, mixed, draining, swapping, releasing, apart, chainOf}
+use Rattle.rules.specs.Unbroken.{stored, inserting, removing, mixed, scanning, draining, swapping, releasing, apart, chainOf}
 
 -- ---- one change
 abbrev pub chunkIs : Tables → ℕ → (Chunk → Chunk) → Tables
@@ -81,6 +81,10 @@ publishedIs n t = goesTo t (t .stage) (t .chunk) (t .entry) (t .old) (t .new) n 
 abbrev pub swappedIs : ℕ → Task → Task
 swappedIs n t = goesTo t (t .stage) (t .chunk) (t .entry) (t .old) (t .new) (t .published) n
 
+-- a word of a task's stack
+abbrev pub stackIs : Tables → ℕ → ℕ → ℕ → Tables
+stackIs s n i e = putStack s n (set (stack s n) i (entryNo e))
+
 -- the directory's row: its first live chunk, its rebalance's stage, old chunk and new ones
 abbrev pub directoryIs : Tables → ℕ → ℕ → ℕ → ℕ → ℕ → Tables
 directoryIs s first n old a b = withDirectory s (record { first = chunkNo first; stage = n; old = chunkNo old; new = chunkNo a; second = chunkNo b })
@@ -96,6 +100,8 @@ rowsMissing =
     withTasks (fresh limits) (replicate 7 idleTask)
     ∷ withChunks (fresh limits) (take 31 (fresh limits .chunks))
     ∷ withEntries (fresh limits) (replicate 1023 emptyEntry)
+    ∷ withStacks (fresh limits) (replicate 7 (emptyStack limits))
+    ∷ putStack (fresh limits) 3 (replicate 31 noEntry)
     ∷ []
 
 -- "each a value and a deleted mark"
@@ -123,6 +129,8 @@ heldNumberPast =
     ∷ taskIs removing 1 (holdsOld 560)
     ∷ taskIs inserting 4 (holdsOld 560)
     ∷ taskIs inserting 5 (holdsNew 560)
+    ∷ taskIs scanning 2 (holdsChunk 32)
+    ∷ stackIs scanning 0 6 32
     ∷ []
 
 -- "each number lies in its table or is none where none is allowed": the rebalancer's chunks
@@ -202,7 +210,7 @@ idleTaskHolds =
 
 -- "each stage is known"
 abbrev pub stageUnknown : List Tables
-stageUnknown = taskIs mixed 4 (stageIs 23) ∷ []
+stageUnknown = taskIs scanning 2 (stageIs 24) ∷ []
 
 -- "holds what the stage list says": a chunk at 1, none at 2
 abbrev pub chunkNotAsListed : List Tables
@@ -232,7 +240,7 @@ swappedNotAsListed = taskIs inserting 7 (swappedIs 1) ∷ taskIs removing 7 (swa
 abbrev pub handleUndeleted : List Tables
 handleUndeleted = map (λ h. putMark removing (handleNo h) 0) (2 ∷ 3 ∷ 4 ∷ 5 ∷ 6 ∷ 7 ∷ [])
 
--- "fits its operation (get 1 to 4; putIfAbsent 1 to 4, 6 to 12; put, upsert 1 to 12; compute 1 to 5, 13 to 15; remove 1 to 5, 13 to 21; scan 22)"
+-- "fits its operation (get 1 to 4; putIfAbsent 1 to 4, 6 to 12; put, upsert 1 to 12; compute 1 to 5, 13 to 15; remove 1 to 5, 13 to 21; scan 22)", and a scan down 23
 abbrev pub operationNotOfStage : List Tables
 operationNotOfStage =
     taskIs mixed 0 (asks get 0)
@@ -244,7 +252,10 @@ operationNotOfStage =
     ∷ taskIs inserting 1 (asks scan 0)
     ∷ taskIs mixed 4 (asks get 0)
     ∷ taskIs inserting 1 (asks 0 0)
-    ∷ taskIs inserting 1 (asks 8 0)
+    ∷ taskIs inserting 1 (asks scanDown 0)
+    ∷ taskIs mixed 4 (stageIs 23)
+    ∷ taskIs scanning 2 (stageIs 22)
+    ∷ taskIs inserting 1 (asks 9 0)
     ∷ []
 
 -- "a function of 1 to 3 where one is used"
@@ -258,7 +269,7 @@ functionPast =
 
 -- "a held chunk is in use"
 abbrev pub heldChunkUnused : List Tables
-heldChunkUnused = taskIs inserting 2 (holdsChunk 5) ∷ []
+heldChunkUnused = taskIs inserting 2 (holdsChunk 5) ∷ taskIs scanning 2 (holdsChunk 5) ∷ []
 
 -- "a held entry used": an unused slot has key 0
 abbrev pub heldEntryUnused : List Tables
@@ -271,6 +282,22 @@ heldEntryOfOther = taskIs removing 0 (ofKey 6) ∷ []
 -- "linked except at 7"
 abbrev pub heldEntryUnlinked : List Tables
 heldEntryUnlinked = taskIs inserting 0 (stageIs 8) ∷ []
+
+-- "its stack being linked entries of the held chunk": one that waits for its link, an unused slot
+abbrev pub stackUnlinked : List Tables
+stackUnlinked = stackIs scanning 0 6 8 ∷ stackIs scanning 0 6 20 ∷ []
+
+-- "keys rising to the top": falling, and repeated
+abbrev pub stackNotRising : List Tables
+stackNotRising = stackIs (stackIs scanning 0 4 5) 0 5 4 ∷ stackIs scanning 0 6 5 ∷ []
+
+-- and nothing past the top
+abbrev pub stackPastTop : List Tables
+stackPastTop = stackIs scanning 0 7 7 ∷ stackIs scanning 0 31 6 ∷ []
+
+-- a stack is held at 23, and there with a chunk: one of an idle task, at 7, at 22, at 23 without a chunk
+abbrev pub stackNotHeld : List Tables
+stackNotHeld = stackIs scanning 3 0 0 ∷ stackIs scanning 1 0 0 ∷ stackIs mixed 4 0 0 ∷ stackIs scanning 2 0 0 ∷ []
 
 -- ---- the rebalancer
 -- "A rebalancer's chunks must fit its stage": which must be known
@@ -344,6 +371,10 @@ brokenTables =
     ++ heldEntryUnused
     ++ heldEntryOfOther
     ++ heldEntryUnlinked
+    ++ stackUnlinked
+    ++ stackNotRising
+    ++ stackPastTop
+    ++ stackNotHeld
     ++ rebalanceUnknown
     ++ chunkLacking
     ++ oldStatusUnfit

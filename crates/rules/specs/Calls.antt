@@ -10,9 +10,9 @@ use Rattle.rules.specs.declared.Task.{Task}
 use Rattle.rules.specs.declared.Decision.{Decision}
 use Rattle.rules.specs.declared.Report.{Report}
 use Rattle.rules.specs.declared.Report.the-variants as report
-use Rattle.rules.specs.Words.{pick, _and_, _or_, chunkNo, noChunk, noEntry, noHandle, get, remove, scan, usesFunction, live, idle}
-use Rattle.rules.specs.Tables.{Tables, idleTask, emptyChunk, emptyEntry, task, putTask}
-use Rattle.rules.specs.Stages.{decide, apply}
+use Rattle.rules.specs.Words.{pick, _and_, _or_, chunkNo, noChunk, noEntry, noHandle, get, remove, scan, scanDown, isScan, usesFunction, live, idle}
+use Rattle.rules.specs.Tables.{Tables, idleTask, emptyChunk, emptyEntry, emptyStack, task, putTask}
+use Rattle.rules.specs.Stages.{decide, putOwn, apply}
 use Rattle.rules.specs.Rebalance.{Outcome, gives, begins, rebalanceDoes, withStatus}
 use Rattle.rules.specs.Shape.{shape}
 
@@ -28,6 +28,7 @@ fresh z = record {
   entries = replicate (z .chunks * z .entries) emptyEntry;
   values = replicate (z .handles) 0;
   marks = replicate (z .handles) 0;
+  stacks = replicate (z .tasks) (emptyStack z);
 }
 
 -- a call: of a task with an operation, its key, argument and function; of a task; with a key; of the rebalance
@@ -37,27 +38,31 @@ pub data Call : Type 0 where
   begin : ℕ → Call
   rebalance : Call
 
+-- "Start puts a scan at 22 and all others at 1", and a scan down at 23 (document 02, E1)
+abbrev pub firstStage : ℕ → ℕ
+firstStage op = pick (eqb op scan) 22 (pick (eqb op scanDown) 23 1)
+
 module _ (z : Sizes) (s : Tables) where
-  -- "Start puts a scan at 22 and all others at 1, holding nothing"; "Arguments an operation doesn't use are kept as 0"
+  -- "holding nothing"; "Arguments an operation doesn't use are kept as 0"
   abbrev pub started : ℕ → ℕ → ℕ → ℕ → Task
   started op k a f =
-      record { stage = pick (eqb op scan) 22 1; operation = op; function = pick (usesFunction op) f 0; key = k; argument = pick (eqb op get or eqb op remove) 0 a; chunk = noChunk; entry = noEntry; old = noHandle; new = noHandle; published = 0; swapped = 0 }
+      record { stage = firstStage op; operation = op; function = pick (usesFunction op) f 0; key = k; argument = pick (eqb op get or eqb op remove) 0 a; chunk = noChunk; entry = noEntry; old = noHandle; new = noHandle; published = 0; swapped = 0 }
 
   -- refusals 1, 2, 5, 4
   abbrev pub starts : ℕ → ℕ → ℕ → ℕ → ℕ → Outcome
   starts n op k a f =
       pick (leb (z .tasks) n) (gives s (report.Refused 1))
       (pick (eqb (task s n .stage) 0)
-      (pick (ltb op 1 or ltb 7 op or (usesFunction op and (ltb f 1 or ltb 3 f))) (gives s (report.Refused 5))
-      (pick (eqb op scan and ltb a k) (gives s (report.Refused 4))
+      (pick (ltb op 1 or ltb 8 op or (usesFunction op and (ltb f 1 or ltb 3 f))) (gives s (report.Refused 5))
+      (pick (isScan op and ltb a k) (gives s (report.Refused 4))
       (gives (putTask s n (started op k a f)) report.Moved)))
       (gives s (report.Refused 2)))
 
   -- refusals 1, 3, and 9 by the stage
   abbrev pub steps : ℕ → Outcome
   steps n =
-      let x = decide z s (task s n) in
-      let done = gives (apply z (putTask s n (x .task)) (x .write)) (x .report) in
+      let x = decide z s n (task s n) in
+      let done = gives (apply z (putOwn z s n (x .task)) (x .write)) (x .report) in
       pick (leb (z .tasks) n) (gives s (report.Refused 1)) (pick (eqb (task s n .stage) 0) (gives s (report.Refused 3)) done)
 
   -- refusal 8

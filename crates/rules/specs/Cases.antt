@@ -1,11 +1,11 @@
--- The marked cases M1 to M12, and three more: each is its calls from fresh tables, every report of them, and what the tables then show (document 01, "Marked cases").
+-- The marked cases M1 to M12, three more, and four of scans down (document 02, E1): each is its calls from fresh tables, every report of them, and what the tables then show (document 01, "Marked cases").
 use Prim.Native.Nat.{ℕ, zero, suc, _+_, _-_, _^_}
 use mathlib.Core.List.{List, [], _∷_, _++_, map}
 use lib.ListN.{length}
 use Rattle.rules.specs.declared.Sizes.{Sizes}
 use Rattle.rules.specs.declared.Report.{Report}
 use Rattle.rules.specs.declared.Report.the-variants as report
-use Rattle.rules.specs.Words.{pick, limits, chunkNo, entryNo, get, put, putIfAbsent, upsert, compute, remove, scan}
+use Rattle.rules.specs.Words.{pick, limits, chunkNo, entryNo, get, put, putIfAbsent, upsert, compute, remove, scan, scanDown}
 use Rattle.rules.specs.Tables.{Tables, task, chunk, entry}
 use Rattle.rules.specs.Walks.{linked}
 use Rattle.rules.specs.Rebalance.{Outcome, namingFrom}
@@ -44,19 +44,26 @@ unfoldable pub moves : ℕ → ℕ → List Line
 moves n zero = []
 moves n (suc many) = reports (step n) report.Moved ∷ moves n many
 
--- an operation of the task whose step of that number is its first not to move on, and reports that: its answer, or why it restarts
+-- an operation of the task whose step of that number is its first not to move on, and reports that: its answer, or why it restarts; and the tables then have the shape
+abbrev pub ends : ℕ → ℕ → ℕ → ℕ → ℕ → ℕ → Report → List Line
+ends n op k a f steps answer = reports (start n op k a f) report.Moved ∷ moves n (steps - 1) ++ reports (step n) answer ∷ []
+
 abbrev pub finishes : ℕ → ℕ → ℕ → ℕ → ℕ → ℕ → Report → List Line
-finishes n op k a f steps answer = reports (start n op k a f) report.Moved ∷ moves n (steps - 1) ++ reports (step n) answer ∷ shaped ∷ []
+finishes n op k a f steps answer = ends n op k a f steps answer ++ shaped ∷ []
 
 -- an insertion alone, nine steps, and the handle that it takes at the fifth
 abbrev pub takes : ℕ → ℕ → ℕ → ℕ → ℕ → Report → List Line
 takes n op k a h answer =
     reports (start n op k a 0) report.Moved ∷ moves n 5 ++ shows (λ s. task s n .new .0) h ∷ moves n 3 ++ reports (step n) answer ∷ shaped ∷ []
 
--- puts of the keys 1 to n, each into a slot of its own
-unfoldable pub puts : ℕ → List Line
-puts zero = []
-puts (suc n) = puts n ++ finishes 0 put (suc n) 7 0 9 report.Done
+-- puts of the so many keys after k, each into a slot of its own
+unfoldable pub putsOn : ℕ → ℕ → List Line
+putsOn k zero = []
+putsOn k (suc n) = putsOn k n ++ ends 0 put (k + suc n) 7 0 9 report.Done
+
+-- puts of the keys 1 to n
+abbrev pub puts : ℕ → List Line
+puts n = putsOn 0 n ++ shaped ∷ []
 
 -- a rebalance of the chunk that has key 1, through swap in
 abbrev pub swapped : List Line
@@ -219,5 +226,96 @@ upserts =
     ++ finishes 0 upsert 5 (2 ^ 64 - 1) 1 5 report.Done
     ++ finishes 0 get 5 0 0 4 (report.Value 13)
 
+-- ---- scans down (document 02, E1)
+-- pairs of the keys above k, falling, so many, each with the value 7
+unfoldable pub falls : ℕ → ℕ → List Line
+falls k zero = []
+falls k (suc many) = reports (step 0) (report.Pair (k + suc many) 7) ∷ falls k many
+
+-- a whole rebalance of the chunk that has the key
+abbrev pub rebalances : ℕ → List Line
+rebalances k = reports (begin k) report.Moved ∷ reports rebalance report.Moved ∷ reports rebalance report.Moved ∷ reports rebalance report.Moved ∷ reports rebalance report.Finished ∷ shaped ∷ []
+
+-- puts of the so many keys after k, all into one chunk, which a rebalance then makes two
+abbrev pub splits : ℕ → ℕ → List Line
+splits k n = putsOn k n ++ shaped ∷ rebalances (k + n)
+
+-- the keys 1 to 9 in one chunk
+abbrev pub inOne : List Line
+inOne = puts 9
+
+-- then those to 17, in two chunks, from 0 and 10 on
+abbrev pub inTwo : List Line
+inTwo = splits 9 8
+
+-- then those to 26, in three chunks, from 0, 10 and 19 on
+abbrev pub inThree : List Line
+inThree = splits 17 9
+
+-- a scan of all of them: each chunk's fill moves on, and each key of it is a pair
+abbrev pub scansAll : List Line
+scansAll =
+    shows lives 3
+    ∷ reports (start 0 scanDown 0 100 0) report.Moved
+    ∷ moves 0 1
+    ++ falls 18 8
+    ++ moves 0 1
+    ++ falls 9 9
+    ++ moves 0 1
+    ++ shaped
+    ∷ falls 0 9
+    ++ reports (step 0) report.Done
+    ∷ shaped
+    ∷ []
+
+abbrev pub wholeDown : List Line
+wholeDown = inOne ++ (inTwo ++ (inThree ++ scansAll))
+
+-- 5 to 10 of the keys in two chunks: the upper end is left out, and the chunk that starts with it gives nothing
+abbrev pub scansRange : List Line
+scansRange = reports (start 0 scanDown 5 10 0) report.Moved ∷ moves 0 2 ++ falls 4 5 ++ reports (step 0) report.Done ∷ shaped ∷ []
+
+abbrev pub rangeDown : List Line
+rangeDown = inOne ++ (inTwo ++ scansRange)
+
+-- an empty range takes two steps, also where its ends are a chunk's minimum key; 6 to 5 is refused by 4, and operation 9 by 5
+abbrev pub emptyDown : List Line
+emptyDown =
+    m2
+    ++ finishes 0 scanDown 5 5 0 2 report.Done
+    ++ finishes 0 scanDown 0 0 0 2 report.Done
+    ++ finishes 0 scanDown 6 10 0 2 report.Done
+    ++ reports (start 0 scanDown 6 5 0) (report.Refused 4)
+    ∷ reports (start 0 9 5 6 0) (report.Refused 5)
+    ∷ []
+
+-- the held chunk is retired half way: a put above and one of a key on the stack, a remove of another in between; release waits for the scan
+abbrev pub retiredDown : List Line
+retiredDown =
+    puts 4
+    ++ reports (start 0 scanDown 0 10 0) report.Moved
+    ∷ moves 0 1
+    ++ reports (step 0) (report.Pair 4 7)
+    ∷ swapped
+    ++ finishes 1 put 9 90 0 9 report.Done
+    ++ finishes 1 put 2 20 0 5 report.Done
+    ++ finishes 1 remove 3 0 0 11 report.True
+    ++ reports rebalance report.Waiting
+    ∷ moves 0 1
+    ++ reports (step 0) (report.Pair 2 20)
+    ∷ reports (step 0) (report.Pair 1 7)
+    ∷ reports rebalance report.Waiting
+    ∷ reports (step 0) report.Done
+    ∷ reports rebalance report.Finished
+    ∷ shaped
+    ∷ []
+
+-- ---- all of them
+abbrev pub baseCases : List (List Line)
+baseCases = m1 ∷ m2 ∷ m3 ∷ m4 ∷ m5 ∷ m6 ∷ m7 ∷ m8 ∷ m9 ∷ m10 ∷ m10two ∷ m11 ∷ m12 ∷ lost ∷ functions ∷ upserts ∷ []
+
+abbrev pub downCases : List (List Line)
+downCases = emptyDown ∷ retiredDown ∷ wholeDown ∷ rangeDown ∷ []
+
 abbrev pub markedCases : List (List Line)
-markedCases = m1 ∷ m2 ∷ m3 ∷ m4 ∷ m5 ∷ m6 ∷ m7 ∷ m8 ∷ m9 ∷ m10 ∷ m10two ∷ m11 ∷ m12 ∷ lost ∷ functions ∷ upserts ∷ []
+markedCases = baseCases ++ downCases

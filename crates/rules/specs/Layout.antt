@@ -7,6 +7,7 @@ use Rattle.rules.specs.declared.Directory.{Directory}
 use Rattle.rules.specs.declared.Task.{Task}
 use Rattle.rules.specs.declared.Chunk.{Chunk}
 use Rattle.rules.specs.declared.Entry.{Entry}
+use Rattle.rules.specs.declared.EntryNo.{EntryNo}
 use Rattle.rules.specs.Words.{chunkNo, entryNo, handleNo}
 use Rattle.rules.specs.Tables.{Tables}
 
@@ -22,6 +23,10 @@ directoryOf ws = record { first = chunkNo (getD ws 0 0); stage = getD ws 1 0; ol
 abbrev pub taskOf : List ℕ → ℕ → Task
 taskOf ws i = record { stage = getD ws (i * 11) 0; operation = getD ws (i * 11 + 1) 0; function = getD ws (i * 11 + 2) 0; key = getD ws (i * 11 + 3) 0; argument = getD ws (i * 11 + 4) 0; chunk = chunkNo (getD ws (i * 11 + 5) 0); entry = entryNo (getD ws (i * 11 + 6) 0); old = handleNo (getD ws (i * 11 + 7) 0); new = handleNo (getD ws (i * 11 + 8) 0); published = getD ws (i * 11 + 9) 0; swapped = getD ws (i * 11 + 10) 0 }
 
+-- a task's stack: after every task's row so many words for each task as a chunk has entries
+abbrev pub stackOf : Sizes → List ℕ → ℕ → List EntryNo
+stackOf z ws i = rowsFrom (λ e. entryNo (getD ws (z .tasks * 11 + (i * z .entries + e)) 0)) 0 (z .entries)
+
 abbrev pub chunkOf : List ℕ → ℕ → Chunk
 chunkOf ws i = record { status = getD ws (i * 6) 0; frozen = getD ws (i * 6 + 1) 0; min = getD ws (i * 6 + 2) 0; next = chunkNo (getD ws (i * 6 + 3) 0); head = entryNo (getD ws (i * 6 + 4) 0); used = getD ws (i * 6 + 5) 0 }
 
@@ -32,6 +37,9 @@ entryOf ws i = record { key = getD ws (i * 3) 0; handle = handleNo (getD ws (i *
 abbrev pub taskRows : ℕ → List ℕ → List Task
 taskRows n ws = rowsFrom (taskOf ws) 0 n
 
+abbrev pub stackRows : Sizes → List ℕ → List (List EntryNo)
+stackRows z ws = rowsFrom (stackOf z ws) 0 (z .tasks)
+
 abbrev pub chunkRows : ℕ → List ℕ → List Chunk
 chunkRows n ws = rowsFrom (chunkOf ws) 0 n
 
@@ -40,4 +48,4 @@ entryRows n ws = rowsFrom (entryOf ws) 0 n
 
 -- every table, of the words that are lent
 abbrev pub tables : Sizes → List ℕ → List ℕ → List ℕ → List ℕ → List ℕ → List ℕ → Tables
-tables z d ts cs es vs ms = record { directory = directoryOf d; tasks = taskRows (z .tasks) ts; chunks = chunkRows (z .chunks) cs; entries = entryRows (z .chunks * z .entries) es; values = vs; marks = ms }
+tables z d ts cs es vs ms = record { directory = directoryOf d; tasks = taskRows (z .tasks) ts; chunks = chunkRows (z .chunks) cs; entries = entryRows (z .chunks * z .entries) es; values = vs; marks = ms; stacks = stackRows z ts }

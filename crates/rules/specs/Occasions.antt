@@ -9,7 +9,7 @@ use Rattle.rules.specs.declared.Sizes.{Sizes}
 use Rattle.rules.specs.declared.Task.{Task}
 use Rattle.rules.specs.declared.Entry.{Entry}
 use Rattle.rules.specs.declared.Report.the-variants as report
-use Rattle.rules.specs.Words.{pick, _and_, _or_, handleNo, scan, usesFunction, idle}
+use Rattle.rules.specs.Words.{pick, _and_, _or_, handleNo, isScan, usesFunction, idle}
 use Rattle.rules.specs.Tables.{Tables, idleTask, task, putTask}
 use Rattle.rules.specs.Walks.{free}
 use Rattle.rules.specs.Rebalance.{Outcome, unusedCount}
@@ -35,14 +35,14 @@ noneFree es ts zero = true
 noneFree es ts (suc h) = let below = noneFree es ts h in not (free es ts (handleNo h)) and below
 
 module _ (z : Sizes) (s : Tables) where
-  -- 1: task number 8 or more; 2: start on a task at work; 5: operation not 1 to 7, or, for upsert and compute, function not 1 to 3; 4: scan with lower end above the upper;
+  -- 1: task number 8 or more; 2: start on a task at work; 5: operation not 1 to 8, or, for upsert and compute, function not 1 to 3; 4: a scan, up or down, with lower end above the upper;
   -- 3: step of an idle task; 9: stage 8 with no free handle; 6: begin while a rebalance is under way; 7: begin with fewer than two unused chunks; 8: rebalance step while idle
   abbrev pub occasionsOf : Call → List Occasion
   occasionsOf (start n op k a f) =
       refuses 1 (leb (z .tasks) n)
       ∷ refuses 2 (not (eqb (task s n .stage) 0))
-      ∷ refuses 5 (not (among 1 7 op) or (usesFunction op and not (among 1 3 f)))
-      ∷ refuses 4 (eqb op scan and ltb a k)
+      ∷ refuses 5 (not (among 1 8 op) or (usesFunction op and not (among 1 3 f)))
+      ∷ refuses 4 (isScan op and ltb a k)
       ∷ []
   occasionsOf (step n) =
       refuses 1 (leb (z .tasks) n)

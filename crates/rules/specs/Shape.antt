@@ -12,8 +12,8 @@ use Rattle.rules.specs.declared.Entry.{Entry}
 use Rattle.rules.specs.declared.ChunkNo.{ChunkNo}
 use Rattle.rules.specs.declared.EntryNo.{EntryNo}
 use Rattle.rules.specs.declared.HandleNo.{HandleNo}
-use Rattle.rules.specs.Words.{pick, _and_, _or_, NONE, chunkNo, entryNo, noChunk, noEntry, unused, live, new, retired, get, put, putIfAbsent, upsert, compute, remove, scan, usesFunction, idle, toDrain, toCopy, toSwap, toRelease}
-use Rattle.rules.specs.Tables.{Tables, idleTask, emptyChunk, emptyEntry, task, chunk, chunkAt, entry, entryAt, mark}
+use Rattle.rules.specs.Words.{pick, _and_, _or_, NONE, chunkNo, entryNo, noChunk, noEntry, unused, live, new, retired, get, put, putIfAbsent, upsert, compute, remove, scan, scanDown, usesFunction, idle, toDrain, toCopy, toSwap, toRelease}
+use Rattle.rules.specs.Tables.{Tables, idleTask, emptyChunk, emptyEntry, task, stack, chunk, chunkAt, entry, entryAt, mark}
 use Rattle.rules.specs.Rebalance.{unusedCount}
 
 -- ---- tests on lists
@@ -34,6 +34,10 @@ isNone n = eqb n NONE
 abbrev pub numbers : ℕ → ℕ → Bool
 numbers size n = ltb n size or isNone n
 
+-- words of a stack that are none
+abbrev pub allNone : List EntryNo → Bool
+allNone w = each (λ n e. isNone (e .0)) 0 w
+
 abbrev pub isEmptyEntry : Entry → Bool
 isEmptyEntry x = eqb (x .key) 0 and isNone (x .handle .0) and isNone (x .next .0)
 
@@ -46,7 +50,7 @@ holdsNothing t = isNone (t .chunk .0) and isNone (t .entry .0) and isNone (t .ol
 abbrev pub isIdle : Task → Bool
 isIdle t = eqb (t .operation) 0 and eqb (t .function) 0 and eqb (t .key) 0 and eqb (t .argument) 0 and holdsNothing t
 
--- ---- "each stage is known, holds what the stage list says": what each of the 23 stages must hold and may hold
+-- ---- "each stage is known, holds what the stage list says": what each of the 24 stages must hold and may hold
 pub record Hold : Type 0 where
   pub chunk : ℕ
   pub entry : ℕ
@@ -66,7 +70,7 @@ stageList =
     ∷ hold 1 1 2 0 0 0 ∷ hold 1 1 2 1 0 0 ∷ hold 1 1 2 1 0 0 ∷ hold 1 1 2 1 1 0
     ∷ hold 1 1 2 1 1 2 ∷ hold 1 1 1 0 0 0 ∷ hold 1 1 1 0 1 0 ∷ hold 1 1 1 0 1 2
     ∷ hold 0 0 3 0 0 0 ∷ hold 1 0 3 0 0 0 ∷ hold 1 1 3 0 0 0 ∷ hold 1 1 3 0 0 0
-    ∷ hold 1 1 3 0 1 0 ∷ hold 1 1 3 0 1 0 ∷ hold 0 0 0 0 0 0 ∷ []
+    ∷ hold 1 1 3 0 1 0 ∷ hold 1 1 3 0 1 0 ∷ hold 0 0 0 0 0 0 ∷ hold 2 0 0 0 0 0 ∷ []
 
 -- a number is held as the list says: never: none; always: of its table; perhaps: either
 abbrev pub heldAs : ℕ → ℕ → ℕ → Bool
@@ -87,7 +91,8 @@ fitsOperation op n =
     (pick (eqb op put or eqb op upsert) (leb 1 n and leb n 12)
     (pick (eqb op compute) ((leb 1 n and leb n 5) or (leb 13 n and leb n 15))
     (pick (eqb op remove) ((leb 1 n and leb n 5) or (leb 13 n and leb n 21))
-    (pick (eqb op scan) (eqb n 22) false)))))
+    (pick (eqb op scan) (eqb n 22)
+    (pick (eqb op scanDown) (eqb n 23) false))))))
 
 -- ---- walks
 unfoldable pub liveCount : List Chunk → ℕ
@@ -118,6 +123,15 @@ module _ (z : Sizes) where
       let on = linkedFrom es c fuel (entryAt z es c e .next) x in
       pick (ltb (e .0) (z .entries)) (pick (eqb (e .0) (x .0)) true on) false
 
+  -- a stack's words: entries linked from head on, their keys strictly rising from k on, and then none to the end
+  unfoldable pub risesFrom : List Entry → ChunkNo → EntryNo → ℕ → List EntryNo → Bool
+  risesFrom es c head k [] = true
+  risesFrom es c head k (e ∷ w) =
+      let past = allNone w in
+      let on = risesFrom es c head (entryAt z es c e .key + 1) w in
+      let here = pick (linkedFrom es c (z .entries) head e and leb k (entryAt z es c e .key)) on false in
+      pick (isNone (e .0)) past here
+
 module _ (z : Sizes) (s : Tables) where
   -- ---- the tables' lengths
   abbrev pub sized : Bool
@@ -127,6 +141,8 @@ module _ (z : Sizes) (s : Tables) where
       and eqb (length (s .entries)) (z .chunks * z .entries)
       and eqb (length (s .values)) (z .handles)
       and eqb (length (s .marks)) (z .handles)
+      and eqb (length (s .stacks)) (z .tasks)
+      and each (λ n w. eqb (length w) (z .entries)) 0 (s .stacks)
 
   -- ---- "each number lies in its table or is none where none is allowed"; a mark, a status, a count lies in its range
   abbrev pub chunkNumbers : Chunk → Bool
@@ -164,13 +180,21 @@ module _ (z : Sizes) (s : Tables) where
       and flagAs (h .published) (t .published)
       and flagAs (h .swapped) (t .swapped)
       and markAs (h .old) (mark s (t .old))
-      and pick (eqb (h .chunk) 0) true (ltb 0 (chunk s (t .chunk) .status))
+      and pick (isNone (t .chunk .0)) true (ltb 0 (chunk s (t .chunk) .status))
       and pick (eqb (h .entry) 0) true there
 
   abbrev pub taskRight : ℕ → Task → Bool
   taskRight n t =
       let busy = fitsOperation (t .operation) (t .stage) and pick (usesFunction (t .operation)) (leb 1 (t .function) and leb (t .function) 3) true and holdsRight t (getD stageList (t .stage) (hold 0 0 0 0 0 0)) in
       pick (eqb (t .stage) 0) (isIdle t) busy
+
+  -- a task's stack (document 02, E1): at 23 with a chunk "its stack being linked entries of the held chunk, keys rising to the top, whatever the task's key", and none past the top; else nothing is on it
+  abbrev pub stackRight : ℕ → Task → Bool
+  stackRight n t =
+      let w = stack s n in
+      let none = allNone w in
+      let rises = risesFrom z (s .entries) (t .chunk) (chunk s (t .chunk) .head) 0 w in
+      pick (eqb (t .stage) 23 and ltb (t .chunk .0) (z .chunks)) rises none
 
   -- ---- "A rebalancer's chunks must fit its stage"
   -- the chunk is its old one, one of its new ones, or neither: "No other is frozen, new or retired"
@@ -212,6 +236,7 @@ module _ (z : Sizes) (s : Tables) where
       let marks = each (λ n m. leb m 1) 0 (s .marks) in
       let chunks = each chunkRight 0 (s .chunks) in
       let tasks = each taskRight 0 (s .tasks) in
+      let stacks = each stackRight 0 (s .tasks) in
       let rebalance = rebalanceFits in
       let chain = chained in
-      sized and marks and ltb (s .directory .first .0) (z .chunks) and chunks and chain and tasks and rebalance
+      sized and marks and ltb (s .directory .first .0) (z .chunks) and chunks and chain and tasks and stacks and rebalance

@@ -1,8 +1,9 @@
 -- The stages of a task: for each, what its row becomes, what changes elsewhere, and the report (document 01, "Stages of a task").
-use Prim.Native.Nat.{ℕ, _+_, _%_, _^_, max}
+use Prim.Native.Nat.{ℕ, _+_, _-_, _%_, _^_, max}
 use mathlib.Core.Bool.{Bool, true, false}
 use mathlib.Core.List.{List}
 use lib.Dec.{eqb, ltb, leb}
+use lib.ListN.{set}
 use lib.Bits.{bitOr}
 use Rattle.rules.specs.declared.Sizes.{Sizes}
 use Rattle.rules.specs.declared.Task.{Task}
@@ -17,8 +18,8 @@ use Rattle.rules.specs.declared.Report.{Report}
 use Rattle.rules.specs.declared.Report.the-variants as report
 use Rattle.rules.specs.declared.Decision.{Decision}
 use Rattle.rules.specs.Words.{pick, _and_, _or_, noChunk, noEntry, noHandle, entryNo, get, put, putIfAbsent, upsert, compute, remove, inserts}
-use Rattle.rules.specs.Tables.{Tables, idleTask, emptyEntry, chunk, putChunk, entry, putEntry, value, putValue, mark, putMark, putTask}
-use Rattle.rules.specs.Walks.{locate, find, place, firstPresent, lowestFree}
+use Rattle.rules.specs.Tables.{Tables, idleTask, emptyEntry, chunk, putChunk, entry, putEntry, value, putValue, mark, putMark, withOwn, task, stack}
+use Rattle.rules.specs.Walks.{locate, find, place, firstPresent, lowestFree, within, top, off, over, undeleted}
 
 -- ---- a task's row afterwards
 -- the operation goes on at a stage, holding what is named
@@ -197,13 +198,66 @@ module _ (z : Sizes) (s : Tables) (t : Task) where
       let walked = pick (ltb (e .0) (z .entries)) pair on in
       pick (leb (t .argument) (t .key)) (finishes write.Nothing report.Done) walked
 
+  -- 23 scan down (document 02, E1), of task number n: the entry on top of its stack
+  abbrev pub topOf : ℕ → EntryNo
+  topOf n = top z (stack s n)
+
+  -- it holds a chunk, so it has filled its stack before
+  abbrev pub hasFilled : Bool
+  hasFilled = ltb (t .chunk .0) (z .chunks)
+
+  -- "With none below, or that minimum at or under the lower end, it finishes": a minimum of 0, which has none below, is at or under it
+  abbrev pub isLowest : Bool
+  isLowest = hasFilled and leb (chunk s (t .chunk) .min) (t .key)
+
+  -- the chunk to fill from, and the key that it has: "first of the live chunk that has the upper end, later of the one next below the held chunk's minimum key"
+  abbrev pub sought : ℕ
+  sought = pick hasFilled (chunk s (t .chunk) .min - 1) (t .argument)
+
+  abbrev pub nextDown : ChunkNo
+  nextDown = locate z s sought
+
+  -- the keys to fill with lie below this: "in range", and later "only keys under that minimum"
+  abbrev pub under : ℕ
+  under = pick (hasFilled and ltb (chunk s (t .chunk) .min) (t .argument)) (chunk s (t .chunk) .min) (t .argument)
+
+  -- "all linked entries in range", in the order of their keys
+  abbrev pub fillsWith : List EntryNo
+  fillsWith = within z s nextDown (t .key) under
+
+  -- "A step takes one entry off: a pair if that entry names an undeleted handle, else moved on"
+  abbrev pub takesOff : EntryNo → Decision
+  takesOff e =
+      let x = entry z s (t .chunk) e in
+      record { task = t; write = write.Nothing; report = pick (undeleted z (s .marks) (x .handle)) (report.Pair (x .key) (value s (x .handle))) report.Moved }
+
+  -- "A step on an empty stack fills it (moved on)"
+  abbrev pub fills : Decision
+  fills = moves (goesTo t 23 nextDown noEntry noHandle noHandle 0 0) write.Nothing
+
+  abbrev pub scansDown : ℕ → Decision
+  scansDown n =
+      let filled = fills in
+      let empty = pick isLowest (finishes write.Nothing report.Done) filled in
+      pick (ltb (topOf n .0) (z .entries)) (takesOff (topOf n)) empty
+
+  -- the task's stack after its step: one entry is off it, or it is filled, or it stays as it is
+  abbrev pub stackThen : ℕ → List EntryNo
+  stackThen n =
+      let w = stack s n in
+      let less = off z w in
+      let filled = over fillsWith w in
+      let more = pick isLowest w filled in
+      let then = pick (ltb (topOf n .0) (z .entries)) less more in
+      pick (eqb (t .stage) 23) then w
+
   -- 0, and a number that is no stage
   abbrev pub stays : Decision
   stays = record { task = t; write = write.Nothing; report = report.Refused 3 }
 
--- what the stage of that number does
-unfoldable pub stageDoes : ℕ → Sizes → Tables → Task → Decision
-stageDoes n =
+-- what the stage of that number does, for task number i
+unfoldable pub stageDoes : ℕ → ℕ → Sizes → Tables → Task → Decision
+stageDoes n i =
     pick (eqb n 1 or eqb n 16) locates
     (pick (eqb n 2) finds
     (pick (eqb n 3) reads
@@ -221,10 +275,15 @@ stageDoes n =
     (pick (eqb n 17) findsAgain
     (pick (eqb n 18) readsAgain
     (pick (eqb n 21) endsRemove
-    (pick (eqb n 22) scans stays)))))))))))))))))
+    (pick (eqb n 22) scans
+    (pick (eqb n 23) (λ z s t. scansDown z s t i) stays))))))))))))))))))
 
-abbrev pub decide : Sizes → Tables → Task → Decision
-decide z s t = stageDoes (t .stage) z s t
+abbrev pub decide : Sizes → Tables → ℕ → Task → Decision
+decide z s n t = stageDoes (t .stage) n z s t
+
+-- the task's own record after its step: its row as given, and its stack
+abbrev pub putOwn : Sizes → Tables → ℕ → Task → Tables
+putOwn z s n t = withOwn s (set (s .tasks) n t) (set (s .stacks) n (stackThen z s (task s n) n))
 
 -- ---- what a write does to the tables
 abbrev pub applySlot : Sizes → Tables → ChunkNo → ℕ → Tables

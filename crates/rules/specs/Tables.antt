@@ -1,7 +1,7 @@
 -- The tables, and each row read and written (document 01, "What the tables hold").
 use Prim.Native.Nat.{ℕ, _+_, _*_}
-use mathlib.Core.List.{List}
-use lib.ListN.{getD, set}
+use mathlib.Core.List.{List, []}
+use lib.ListN.{getD, set, replicate}
 use Rattle.rules.specs.declared.Sizes.{Sizes}
 use Rattle.rules.specs.declared.Directory.{Directory}
 use Rattle.rules.specs.declared.Task.{Task}
@@ -12,7 +12,7 @@ use Rattle.rules.specs.declared.EntryNo.{EntryNo}
 use Rattle.rules.specs.declared.HandleNo.{HandleNo}
 use Rattle.rules.specs.Words.{noChunk, noEntry, noHandle}
 
--- every table. The entries of chunk c stand in rows c * entries and on; a handle's record is its value and its mark, 1 where deleted
+-- every table. The entries of chunk c stand in rows c * entries and on; a handle's record is its value and its mark, 1 where deleted; a task's stack has a word for each entry of a chunk, none past the top
 pub record Tables : Type 0 where
   pub directory : Directory
   pub tasks : List Task
@@ -20,6 +20,7 @@ pub record Tables : Type 0 where
   pub entries : List Entry
   pub values : List ℕ
   pub marks : List ℕ
+  pub stacks : List (List EntryNo)
 
 -- ---- rows that "hold only 0 and none"
 abbrev pub idleTask : Task
@@ -31,24 +32,35 @@ emptyChunk = record { status = 0; frozen = 0; min = 0; next = noChunk; head = no
 abbrev pub emptyEntry : Entry
 emptyEntry = record { key = 0; handle = noHandle; next = noEntry }
 
+-- a stack with nothing on it
+abbrev pub emptyStack : Sizes → List EntryNo
+emptyStack z = replicate (z .entries) noEntry
+
 -- ---- a table written anew
 abbrev pub withDirectory : Tables → Directory → Tables
-withDirectory s x = record { directory = x; tasks = s .tasks; chunks = s .chunks; entries = s .entries; values = s .values; marks = s .marks }
+withDirectory s x = record { directory = x; tasks = s .tasks; chunks = s .chunks; entries = s .entries; values = s .values; marks = s .marks; stacks = s .stacks }
 
 abbrev pub withTasks : Tables → List Task → Tables
-withTasks s x = record { directory = s .directory; tasks = x; chunks = s .chunks; entries = s .entries; values = s .values; marks = s .marks }
+withTasks s x = record { directory = s .directory; tasks = x; chunks = s .chunks; entries = s .entries; values = s .values; marks = s .marks; stacks = s .stacks }
 
 abbrev pub withChunks : Tables → List Chunk → Tables
-withChunks s x = record { directory = s .directory; tasks = s .tasks; chunks = x; entries = s .entries; values = s .values; marks = s .marks }
+withChunks s x = record { directory = s .directory; tasks = s .tasks; chunks = x; entries = s .entries; values = s .values; marks = s .marks; stacks = s .stacks }
 
 abbrev pub withEntries : Tables → List Entry → Tables
-withEntries s x = record { directory = s .directory; tasks = s .tasks; chunks = s .chunks; entries = x; values = s .values; marks = s .marks }
+withEntries s x = record { directory = s .directory; tasks = s .tasks; chunks = s .chunks; entries = x; values = s .values; marks = s .marks; stacks = s .stacks }
 
 abbrev pub withValues : Tables → List ℕ → Tables
-withValues s x = record { directory = s .directory; tasks = s .tasks; chunks = s .chunks; entries = s .entries; values = x; marks = s .marks }
+withValues s x = record { directory = s .directory; tasks = s .tasks; chunks = s .chunks; entries = s .entries; values = x; marks = s .marks; stacks = s .stacks }
 
 abbrev pub withMarks : Tables → List ℕ → Tables
-withMarks s x = record { directory = s .directory; tasks = s .tasks; chunks = s .chunks; entries = s .entries; values = s .values; marks = x }
+withMarks s x = record { directory = s .directory; tasks = s .tasks; chunks = s .chunks; entries = s .entries; values = s .values; marks = x; stacks = s .stacks }
+
+abbrev pub withStacks : Tables → List (List EntryNo) → Tables
+withStacks s x = record { directory = s .directory; tasks = s .tasks; chunks = s .chunks; entries = s .entries; values = s .values; marks = s .marks; stacks = x }
+
+-- what is a task's own: the tasks' rows and their stacks
+abbrev pub withOwn : Tables → List Task → List (List EntryNo) → Tables
+withOwn s x y = record { directory = s .directory; tasks = x; chunks = s .chunks; entries = s .entries; values = s .values; marks = s .marks; stacks = y }
 
 -- ---- a row read and written
 abbrev pub task : Tables → ℕ → Task
@@ -56,6 +68,13 @@ task s n = getD (s .tasks) n idleTask
 
 abbrev pub putTask : Tables → ℕ → Task → Tables
 putTask s n t = withTasks s (set (s .tasks) n t)
+
+-- a task's stack, its words from the bottom on
+abbrev pub stack : Tables → ℕ → List EntryNo
+stack s n = getD (s .stacks) n []
+
+abbrev pub putStack : Tables → ℕ → List EntryNo → Tables
+putStack s n w = withStacks s (set (s .stacks) n w)
 
 abbrev pub chunkAt : List Chunk → ChunkNo → Chunk
 chunkAt cs c = getD cs (c .0) emptyChunk

@@ -4,7 +4,7 @@ use mathlib.Core.List.{List, [], _∷_, _++_}
 use lib.Dec.{eqb}
 use lib.ListN.{replicate}
 use Rattle.rules.specs.declared.Chunk.{Chunk}
-use Rattle.rules.specs.Words.{pick, limits, chunkNo, noChunk, noEntry, live, new, put, upsert, compute, remove, scan}
+use Rattle.rules.specs.Words.{pick, limits, chunkNo, noChunk, noEntry, live, new, put, upsert, compute, remove, scan, scanDown}
 use Rattle.rules.specs.Tables.{Tables, emptyChunk, withChunks, putChunk}
 use Rattle.rules.specs.Calls.{fresh, does, Call}
 use Rattle.rules.specs.Calls.Call.{start, step, begin, rebalance}
@@ -42,6 +42,10 @@ removing = after stored (works 0 remove 0 2 ++ works 1 remove 1 3 ++ works 2 rem
 unfoldable pub mixed : Tables
 mixed = after stored (works 0 put 0 4 ++ works 1 put 9 8 ++ works 2 compute 2 0 ++ works 3 upsert 3 0 ++ works 4 scan 4 0)
 
+-- tasks 0 to 2: a scan down with the entries 0 to 5 on its stack, a put of an absent key at 7 with entry 8, a scan down that holds nothing
+unfoldable pub scanning : Tables
+scanning = after stored (works 0 scanDown 0 3 ++ works 1 put 9 3 ++ works 2 scanDown 0 0)
+
 -- a rebalance of the empty chunk 0: at drain, and after more calls at copy, swap in and release, with chunk 1 new
 unfoldable pub rebalancing : List Call → Tables
 rebalancing l = after (fresh limits) (begin 0 ∷ l)
@@ -74,6 +78,7 @@ soundTables =
     ∷ inserting
     ∷ removing
     ∷ mixed
+    ∷ scanning
     ∷ draining
     ∷ rebalancing (rebalance ∷ [])
     ∷ swapping

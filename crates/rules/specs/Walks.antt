@@ -1,11 +1,11 @@
 -- What the tables say: which chunk has a key, which entry of it, what is present, which handle is free (document 01, "What the tables hold").
 -- A walk takes the table that it walks. It has as many steps as its list may have members, and a number past the table ends it, as none does.
-use Prim.Native.Nat.{ℕ, zero, suc, _+_, _≤_, _<_}
+use Prim.Native.Nat.{ℕ, zero, suc, _+_, _-_, _≤_, _<_}
 use mathlib.Core.Path.{_≡_}
 use mathlib.Core.Bool.{Bool, true, false, not}
 use mathlib.Core.List.{List, [], _∷_, List·Memᴰ}
 use lib.Dec.{eqb, ltb, leb}
-use lib.ListN.{getD}
+use lib.ListN.{getD, set}
 use Rattle.rules.specs.declared.Sizes.{Sizes}
 use Rattle.rules.specs.declared.Task.{Task}
 use Rattle.rules.specs.declared.Chunk.{Chunk}
@@ -63,6 +63,36 @@ module _ (z : Sizes) (es : List Entry) (c : ChunkNo) where
       let on = placeFrom fuel e (entryAt z es c e .next) k in
       pick (ltb (e .0) (z .entries) and ltb (entryAt z es c e .key) k) on before
 
+-- the linked entries from e on with a key from..to (to left out), in order
+module _ (z : Sizes) (es : List Entry) (c : ChunkNo) (from to : ℕ) where
+  unfoldable pub withinFrom : ℕ → EntryNo → List EntryNo
+  withinFrom zero e = []
+  withinFrom (suc fuel) e =
+      let on = withinFrom fuel (entryAt z es c e .next) in
+      let more = pick (leb from (entryAt z es c e .key) and ltb (entryAt z es c e .key) to) (e ∷ on) on in
+      pick (ltb (e .0) (z .entries)) more []
+
+-- ---- a task's stack
+-- how many entries are on it: the words before the first that is none
+unfoldable pub depth : Sizes → List EntryNo → ℕ
+depth z [] = 0
+depth z (e ∷ w) = let on = depth z w + 1 in pick (ltb (e .0) (z .entries)) on 0
+
+-- the one on top, or no number of an entry where there is none
+abbrev pub top : Sizes → List EntryNo → EntryNo
+top z w = getD w (depth z w - 1) noEntry
+
+-- without that one
+abbrev pub off : Sizes → List EntryNo → List EntryNo
+off z w = set w (depth z w - 1) noEntry
+
+-- the list laid over the words, from the bottom on
+unfoldable pub over : List EntryNo → List EntryNo → List EntryNo
+over [] w = w
+over (e ∷ l) [] = []
+over (e ∷ l) (x ∷ w) = e ∷ over l w
+
+-- ---- handles
 -- the handle is one of the table, and its mark is 0
 abbrev pub undeleted : Sizes → List ℕ → HandleNo → Bool
 undeleted z ms h = ltb (h .0) (z .handles) and eqb (getD ms (h .0) 0) 0
@@ -113,6 +143,9 @@ module _ (z : Sizes) (s : Tables) where
 
   abbrev pub place : ChunkNo → ℕ → EntryNo
   place c k = placeFrom z (s .entries) c (z .entries) noEntry (chunk s c .head) k
+
+  abbrev pub within : ChunkNo → ℕ → ℕ → List EntryNo
+  within c from to = withinFrom z (s .entries) c from to (z .entries) (chunk s c .head)
 
   abbrev pub firstPresent : ChunkNo → ℕ → ℕ → EntryNo
   firstPresent c from to = presentFrom z (s .entries) (s .marks) c from to (z .entries) (chunk s c .head)

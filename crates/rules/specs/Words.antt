@@ -59,7 +59,7 @@ new = 2
 abbrev pub retired : ℕ
 retired = 3
 
--- ---- "operation 1 to 7"
+-- ---- "operation 1 to 7", and 8 (document 02, E1)
 abbrev pub get : ℕ
 get = 1
 
@@ -80,6 +80,13 @@ remove = 6
 
 abbrev pub scan : ℕ
 scan = 7
+
+abbrev pub scanDown : ℕ
+scanDown = 8
+
+-- upward and down
+abbrev pub isScan : ℕ → Bool
+isScan op = eqb op scan or eqb op scanDown
 
 -- put, putIfAbsent, upsert
 abbrev pub inserts : ℕ → Bool

@@ -108,7 +108,7 @@ module _ (z : Sizes) (lim : Limited z) (s : Tables) (kept : Kept z s) (from to :
       none = first-miss z (s .entries) (s .marks) c from to (chunk s c .used) small (lim .entries) (z .entries) 0 (chunk s c .head) (linked z s c) (le-trans (links-length z (s .entries) c (chunk s c .used) 0 (chunk s c .head) (linked z s c) links) small) links o
 
 -- ---- the step
-module _ (z : Sizes) (lim : Limited z) (s : Tables) (kept : Kept z s) (t : Task) where
+module _ (z : Sizes) (lim : Limited z) (s : Tables) (kept : Kept z s) (n : ℕ) (t : Task) where
   abbrev By : Decision → Type 0
   By = Scanning z s t
 
@@ -142,6 +142,6 @@ module _ (z : Sizes) (lim : Limited z) (s : Tables) (kept : Kept z s) (t : Task)
           out i = omega (arith, n, i)
 
   -- what a task at 22 decides
-  pub scan-by : t .stage ≡ 22 → By (Stages.decide z s t)
+  pub scan-by : t .stage ≡ 22 → By (Stages.decide z s n t)
   unfolding Stages.stageDoes
-  scan-by q = at-stage z s t By 22 q scans-by
+  scan-by q = at-stage z s n t By 22 q scans-by

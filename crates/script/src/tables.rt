@@ -112,3 +112,18 @@ pub fn task_line(out: &mut [u8], at: usize, i: u64, t: Task) -> usize {
     let n = task_work(out, at, i, t);
     task_holds(out, n, t)
 }
+
+// A stack's line: whose it is.
+pub fn stack_begins(out: &mut [u8], at: usize, i: u64) -> usize {
+    print::field(out, at, b"stack ", i)
+}
+
+// An entry on it.
+pub fn stack_entry(out: &mut [u8], at: usize, e: u64) -> usize {
+    print::field(out, at, b" ", e)
+}
+
+// The line's end.
+pub fn stack_ends(out: &mut [u8], at: usize) -> usize {
+    print::byte(out, at, b'\n')
+}

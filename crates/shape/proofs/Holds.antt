@@ -1,5 +1,5 @@
 -- What a task holds: the table of stages is the stage list, and the rule taken apart as the code tests it.
-use Prim.Native.Nat.{ℕ, zero, suc, _+_, _<_}
+use Prim.Native.Nat.{ℕ, zero, suc, _+_, _≤_, _<_}
 use mathlib.Core.Path.{_≡_, refl, ap, _∙_}
 use mathlib.Core.Bool.{Bool, true, false, _&&_}
 use mathlib.Core.List.{List, [], _∷_, map}
@@ -9,12 +9,12 @@ use lib.ListN.{getD, List·getD-map}
 use borrow.Author.Tests.{eqb-true, eqb-false, ltb-true, ne-eqb}
 use Rattle.rules.specs.declared.Sizes.{Sizes}
 use Rattle.rules.specs.declared.Task.{Task}
-use Rattle.rules.specs.Words.{pick}
+use Rattle.rules.specs.Words.{pick, NONE}
 use Rattle.rules.specs.Tables.{Tables, chunk, mark}
-use Rattle.rules.specs.Shape.{each, Hold, hold, stageList, heldAs, markAs, flagAs, holdsEntry, holdsRight}
+use Rattle.rules.specs.Shape.{each, Hold, hold, stageList, isNone, heldAs, markAs, flagAs, holdsEntry, holdsRight}
 use Rattle.shape.specs.declared.stages.Holds.{Holds}
 use Rattle.shape.specs.Parts.{holdOf, ofHold, entryWithChunk, numbersRight, Listed}
-use Rattle.shape.proofs.Tests.{and-and, and-left, and-right, both-fail, both-hold}
+use Rattle.listed.proofs.Tests.{and-and, and-left, and-right, both-fail, both-hold}
 
 -- ---- the table
 each-at : {A : Type 0} (p : A → Bool) (d : A) → p d ≡ true → (l : List A) (i : ℕ) → each (λ n x. p x) i l ≡ true → (n : ℕ) → p (getD l n d) ≡ true
@@ -39,18 +39,11 @@ module _ (h : Holds) (p : entryWithChunk h ≡ true) where
       let q : pick (eqb (h .entry) 1) (eqb (h .chunk) 1) false ≡ true = rw (ne-eqb (h .entry) 0 m) at p in
       (eqb-true (h .entry) 1 (and-left (eqb (h .entry) 1) _ q), eqb-true (h .chunk) 1 (and-right (eqb (h .entry) 1) _ q))
 
-  pub entry-none : h .chunk ≡ 0 → eqb (h .entry) 0 ≡ true
-  entry-none e = go (eqb (h .entry) 0) refl
-    where
-      go : (b : Bool) → eqb (h .entry) 0 ≡ b → eqb (h .entry) 0 ≡ true
-      go true q = q
-      go false q = let w : h .chunk ≡ 1 = entry-one (eqb-false (h .entry) 0 q) .1 in absurd (omega arith)
-
 -- ---- the rule taken apart
 module _ (z : Sizes) (s : Tables) (t : Task) (h : Hold) where
   -- what is left to ask, once the numbers, the flags and the mark are seen to be right
   abbrev pub left : Bool
-  left = pick (pick (eqb (h .chunk) 0) true (ltb 0 (chunk s (t .chunk) .status))) (pick (eqb (h .entry) 0) true (holdsEntry z s t)) false
+  left = pick (pick (isNone (t .chunk .0)) true (ltb 0 (chunk s (t .chunk) .status))) (pick (eqb (h .entry) 0) true (holdsEntry z s t)) false
 
   holds-split : holdsRight z s t h ≡ pick (numbersRight z t h) (pick (markAs (h .old) (mark s (t .old))) left false) false
   holds-split =
@@ -86,3 +79,11 @@ module _ (z : Sizes) (t : Task) (h : Hold) (n : numbersRight z t h ≡ true) whe
       let w = and-left (heldAs (h .entry) (z .entries) (t .entry .0)) _ (and-right (heldAs (h .chunk) (z .chunks) (t .chunk .0)) _ n) in
       let w′ : heldAs 1 (z .entries) (t .entry .0) ≡ true = rw e at w in
       ltb-true (t .entry .0) (z .entries) w′
+
+-- a task without a chunk has no entry
+pub no-entry : (z : Sizes) (t : Task) (h : Holds) → entryWithChunk h ≡ true → numbersRight z t (holdOf h) ≡ true → z .chunks ≤ NONE → t .chunk .0 ≡ NONE → eqb (h .entry) 0 ≡ true
+no-entry z t h p n fits none = go (eqb (h .entry) 0) refl
+  where
+    go : (b : Bool) → eqb (h .entry) 0 ≡ b → eqb (h .entry) 0 ≡ true
+    go true e = e
+    go false e = let l : t .chunk .0 < z .chunks = held-chunk z t (holdOf h) n (entry-one h p (eqb-false (h .entry) 0 e) .1) in absurd (omega arith)

@@ -1,7 +1,3 @@
-pub mod Tests
-pub mod Rows
-pub mod Lists
-pub mod Chain
 pub mod Holds
+pub mod Fits
 pub mod Whole
-pub mod Plain

@@ -1,11 +1,8 @@
 // The shape that every call tests first (document 01, "Shape, checked by every call first").
-mod chunks;
 mod rebalance;
 mod stages;
 mod tasks;
 
-use chunks::chain_right;
-use chunks::chunks_right;
 use rebalance::rebalance_fits;
 use rules::Sizes;
 use tasks::tasks_right;
@@ -34,13 +31,16 @@ pub fn has_shape(
     if z.chunks <= d.first.0 as usize {
         return false;
     }
-    if !chunks_right(z, chunks, entries) {
+    if !listed::chunks_right(z, chunks, entries) {
         return false;
     }
-    if !chain_right(z, chunks, d) {
+    if !listed::chain_right(z, chunks, d) {
         return false;
     }
     if !tasks_right(z, tasks, chunks, entries, marks) {
+        return false;
+    }
+    if !stacked::stacks_right(z, tasks, chunks, entries) {
         return false;
     }
     rebalance_fits(z, chunks, d)

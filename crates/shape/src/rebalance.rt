@@ -1,6 +1,4 @@
 // The rebalance's part of the shape: its chunks fit its stage, and no other is frozen, new or retired.
-use crate::chunks::in_table;
-use crate::chunks::status_count;
 use rules::Chunk;
 use rules::Directory;
 use rules::NONE;
@@ -11,7 +9,8 @@ ghost use lib.ListN.{length};
 ghost use Rattle.rules.specs.Words.{pick};
 ghost use Rattle.rules.specs.Shape.{each, chunkFits, rebalanceFits};
 ghost use Rattle.rows.specs.Rows.{chunkRows};
-ghost use Rattle.shape.specs.Parts.{bare, headed, StageFits};
+ghost use Rattle.listed.specs.Parts.{bare, headed};
+ghost use Rattle.shape.specs.Parts.{StageFits};
 
 // The one status or the other.
 fn one_of(test: bool, a: u64, b: u64) -> u64
@@ -58,7 +57,7 @@ fn stage_fits(z: Sizes, d: Directory, two: bool) -> bool
     let stage = d.stage;
     let old = (d.old.0 as usize) < z.chunks;
     let none = (d.new.0 == NONE) & (d.second.0 == NONE);
-    let second = in_table(z.chunks, d.second.0);
+    let second = listed::in_table(z.chunks, d.second.0);
     if stage == 0 {
         return (d.old.0 == NONE) & none;
     }
@@ -77,7 +76,7 @@ pub(crate) fn rebalance_fits(z: Sizes, chunks: &[u64], d: Directory) -> bool
     requires { ⌜ length (now chunks) ≡ z .chunks * 6 ⌝ }
     ensures { λ r. ⌜ r ≡ rebalanceFits z (headed z d (now (chunks .entry))) ⌝ }
 {
-    let unused = status_count(z, chunks, 0);
+    let unused = listed::status_count(z, chunks, 0);
     if !stage_fits(z, d, 2 <= unused) {
         return false;
     }

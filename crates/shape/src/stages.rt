@@ -1,4 +1,4 @@
-// The stage list as a table: what each of the 23 stages must hold and may hold (document 01, "Stages of a task").
+// The stage list as a table: what each of the 24 stages must hold and may hold (document 01, "Stages of a task").
 ghost use Rattle.shape.specs.Parts.{Listed};
 
 // What a stage holds of each: 0 never, 1 always, 2 perhaps; 3, of an old handle: always, and it is deleted.
@@ -12,7 +12,7 @@ pub struct Holds {
 }
 
 // The stage list.
-const STAGES: [Holds; 23] = [
+const STAGES: [Holds; 24] = [
     // 0 idle
     Holds {
         chunk: 0,
@@ -220,6 +220,15 @@ const STAGES: [Holds; 23] = [
         published: 0,
         swapped: 0,
     },
+    // 23 scan down
+    Holds {
+        chunk: 2,
+        entry: 0,
+        old: 0,
+        new: 0,
+        published: 0,
+        swapped: 0,
+    },
 ];
 
 // A stage's row of the list; one past it holds nothing.
@@ -227,7 +236,7 @@ pub(crate) fn stage_holds(stage: u64) -> Holds
     ensures { λ r. ⌜ Listed stage r ⌝ }
 {
     let i = stage as usize;
-    if i < 23 {
+    if i < 24 {
         STAGES[i]
     } else {
         Holds {

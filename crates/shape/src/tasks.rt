@@ -1,5 +1,4 @@
 // The tasks' part of the shape: each task's stage is known, holds what the stage list says, and fits its operation.
-use crate::chunks::in_table;
 use crate::stages::Holds;
 use crate::stages::stage_holds;
 use rules::ChunkNo;
@@ -10,11 +9,12 @@ use rules::Sizes;
 use rules::Task;
 ghost use mathlib.Core.Path.{_≡_};
 ghost use mathlib.Core.Bool.{true};
-ghost use Prim.Native.Nat.{_*_};
+ghost use Prim.Native.Nat.{_+_, _*_};
 ghost use lib.ListN.{length, getD};
 ghost use Rattle.rules.specs.Shape.{each, heldAs, markAs, flagAs, fitsOperation, linkedFrom, isIdle, holdsEntry, holdsRight, taskRight};
 ghost use Rattle.rows.specs.Rows.{taskRows, entryRows};
-ghost use Rattle.shape.specs.Parts.{asked, kept, functionRight, numbersRight, holdOf, entryWithChunk, Long, Held, Slots};
+ghost use Rattle.listed.specs.Parts.{asked, kept, Slots};
+ghost use Rattle.shape.specs.Parts.{functionRight, numbersRight, holdOf, entryWithChunk, Long, Held};
 
 // A number is held as the list says.
 fn held(how: u8, size: usize, n: u64) -> bool
@@ -24,7 +24,7 @@ fn held(how: u8, size: usize, n: u64) -> bool
         return n == NONE;
     }
     if how == 2 {
-        return in_table(size, n);
+        return listed::in_table(size, n);
     }
     (n as usize) < size
 }
@@ -57,6 +57,7 @@ fn fits_operation(op: u64, n: u64) -> bool
         5 => (1 <= n) & (n <= 5) | (13 <= n) & (n <= 15),
         6 => (1 <= n) & (n <= 5) | (13 <= n) & (n <= 21),
         7 => n == 22,
+        8 => n == 23,
         _ => false,
     }
 }
@@ -144,7 +145,7 @@ fn holds_right(z: Sizes, chunks: &[u64], entries: &[u64], marks: &[u64], t: Task
     if !(numbers_right(z, t, h) & marked(h.old, marks, t.old)) {
         return false;
     }
-    if h.chunk == 0 {
+    if t.chunk.0 == NONE {
         return true;
     }
     let row = rows::chunk_at(z, chunks, t.chunk);
@@ -183,7 +184,7 @@ pub(crate) fn tasks_right(
     entries: &[u64],
     marks: &[u64],
 ) -> bool
-    requires { ⌜ (length (now tasks) ≡ z .tasks * 11) × Long z (now chunks) (now entries) ⌝ }
+    requires { ⌜ (length (now tasks) ≡ z .tasks * 11 + z .tasks * z .entries) × Long z (now chunks) (now entries) ⌝ }
     ensures { λ r. ⌜ r ≡ each (taskRight z (asked z (now (chunks .entry)) (now (entries .entry)) (now (marks .entry)))) 0 (taskRows (z .tasks) (now (tasks .entry))) ⌝ }
 {
     let size = z.tasks;

@@ -123,9 +123,9 @@ module _ (z : Sizes) (s : Tables) (t : Task) (r : Tasked z (s .chunks) (s .entri
   clears-at (inl e) = let H = holds-at 14 e (omega arith) in clears-act 14 e refl refl (omega arith, omega arith, omega arith) (record { chunk = ltb-true _ _ (H .chunk); entry = ltb-true _ _ (H .entry) }) (eqb-true _ _ (H .published))
   clears-at (inr e) = let H = holds-at 20 e (omega arith) in clears-act 20 e refl refl (omega arith, omega arith, omega arith) (record { chunk = ltb-true _ _ (H .chunk); entry = ltb-true _ _ (H .entry) }) (eqb-true _ _ (H .published))
 
-  pub decides-act : By (Stages.decide z s t)
-  decides-act =
-      each-stage z s t By (record {
+  pub decides-act : (n : ℕ) → By (Stages.decide z s n t)
+  decides-act n =
+      each-stage z s n t By (record {
         locates = ⊎-elim (λ e. quiet 1 e refl refl refl) (λ e. quiet 16 e refl refl refl);
         finds = λ e. quiet 2 e refl refl (simp stilled);
         reads = λ e. quiet 3 e refl refl (simp stilled);
@@ -144,5 +144,6 @@ module _ (z : Sizes) (s : Tables) (t : Task) (r : Tasked z (s .chunks) (s .entri
         readsAgain = λ e. quiet 18 e refl refl (simp stilled);
         endsRemove = λ e. quiet 21 e refl refl refl;
         scans = λ e. quiet 22 e refl refl (simp stilled);
+        scansDown = λ e. quiet 23 e refl refl (simp stilled);
         stays = λ none. Acts.still refl (rw (none 11 refl, none 5 refl) refl);
       })

@@ -10,6 +10,7 @@ use native.Mathlib.Omega.{arith}
 use lib.ListN.{getD, set}
 use lib.Seq.{getD-set-same}
 use Rattle.rules.specs.declared.Sizes.{Sizes}
+use Rattle.rules.specs.declared.EntryNo.{EntryNo}
 use Rattle.rules.specs.declared.Task.{Task}
 use Rattle.rules.specs.declared.Entry.{Entry}
 use Rattle.rules.specs.declared.Decision.{Decision}
@@ -52,20 +53,23 @@ module _ (z : Sizes) (lim : Limited z) (s : Tables) (kept : Kept z s) (own : Own
   t = task s n
 
   abbrev x : Decision
-  x = Stages.decide z s t
+  x = Stages.decide z s n t
 
   abbrev ts : List Task
   ts = set (s .tasks) n (x .task)
 
+  abbrev ss : List (List EntryNo)
+  ss = set (s .stacks) n (Stages.stackThen z s t n)
+
   abbrev s′ : Tables
-  s′ = Rows.after z lim s kept ts (x .write)
+  s′ = Rows.after z lim s kept ts ss (x .write)
 
   -- ---- every key at which the step does not decide
   on : (k v : ℕ) → (decides z s t ≡ true → k ≢ t .key) → PresentBy z s k v → PresentBy z s′ k v
   on k v far p = record { handle = p .handle; inside = p .inside; named = live-on z lim s kept n marked (p .handle) k (p .inside) (p .undeleted) (p .named); undeleted = r .0 ∙ p .undeleted; valued = r .1 ∙ p .valued }
     where
       r : (getD (s′ .marks) (p .handle) 0 ≡ getD (s .marks) (p .handle) 0) × (getD (s′ .values) (p .handle) 0 ≡ getD (s .values) (p .handle) 0)
-      r = record-same z lim s kept ts n own (acts z lim s kept n) (p .handle) k (p .inside) (under z (s .entries) (p .named .chunk) (p .named .numbered) (p .named .named)) far
+      r = record-same z lim s kept ts ss n own (acts z lim s kept n) (p .handle) k (p .inside) (under z (s .entries) (p .named .chunk) (p .named .numbered) (p .named .named)) far
 
   back : (k v : ℕ) → (decides z s t ≡ true → k ≢ t .key) → PresentBy z s′ k v → PresentBy z s k v
   back k v far p = go (named-back z lim s kept n (p .named .chunk) (p .named .numbered) (p .handle) k (p .inside) (p .named .named))
@@ -74,7 +78,7 @@ module _ (z : Sizes) (lim : Limited z) (s : Tables) (kept : Kept z s) (own : Own
       go (inl w) = record { handle = p .handle; inside = p .inside; named = record { chunk = p .named .chunk; numbered = p .named .numbered; isLive = sym (same-status z lim s kept n (p .named .chunk)) ∙ p .named .isLive; named = w }; undeleted = sym (r .0) ∙ p .undeleted; valued = sym (r .1) ∙ p .valued }
         where
           r : (getD (s′ .marks) (p .handle) 0 ≡ getD (s .marks) (p .handle) 0) × (getD (s′ .values) (p .handle) 0 ≡ getD (s .values) (p .handle) 0)
-          r = record-same z lim s kept ts n own (acts z lim s kept n) (p .handle) k (p .inside) (under z (s .entries) (p .named .chunk) (p .named .numbered) w) far
+          r = record-same z lim s kept ts ss n own (acts z lim s kept n) (p .handle) k (p .inside) (under z (s .entries) (p .named .chunk) (p .named .numbered) w) far
       go (inr w) = absurd (far (w .decided) (w .key))
 
   -- ---- the key at which it decides
@@ -93,7 +97,7 @@ module _ (z : Sizes) (lim : Limited z) (s : Tables) (kept : Kept z s) (own : Own
         is-old = sym (swaps .names) ∙ row-named z lim s kept un (p .inside) (p .named) (t .chunk) (t .entry) (record { numbered = swaps .row .chunk; isLive = is-live }) (held-entry .linked (swaps .past .2)) (held-entry .keyed)
 
     -- and then present with the argument
-    named-now : t .new .0 < z .handles → t .swapped ≡ 0 → 10 ≤ t .stage → PresentBy z (Rows.after z lim s kept ts (write.Name (t .chunk) (t .entry) (t .new))) (t .key) (t .argument)
+    named-now : t .new .0 < z .handles → t .swapped ≡ 0 → 10 ≤ t .stage → PresentBy z (Rows.after z lim s kept ts ss (write.Name (t .chunk) (t .entry) (t .new))) (t .key) (t .argument)
     named-now b q le =
         record {
           handle = t .new .0;
@@ -126,7 +130,7 @@ module _ (z : Sizes) (lim : Limited z) (s : Tables) (kept : Kept z s) (own : Own
 
     -- the operation puts a value there, or takes the key out, and so do the tables
     abbrev pub Decided : Write → Type 0
-    Decided w = ((v : ℕ) × (then-done ≡ effect (changeAnswer (t .operation)) (insert m (t .key) v)) × PresentBy z (Rows.after z lim s kept ts w) (t .key) v) ⊎ ((then-done ≡ effect (changeAnswer (t .operation)) (delete m (t .key))) × ((v : ℕ) → PresentBy z (Rows.after z lim s kept ts w) (t .key) v → ⊥))
+    Decided w = ((v : ℕ) × (then-done ≡ effect (changeAnswer (t .operation)) (insert m (t .key) v)) × PresentBy z (Rows.after z lim s kept ts ss w) (t .key) v) ⊎ ((then-done ≡ effect (changeAnswer (t .operation)) (delete m (t .key))) × ((v : ℕ) → PresentBy z (Rows.after z lim s kept ts ss w) (t .key) v → ⊥))
 
     at-present : t .old .0 < z .handles → getD (s .marks) (t .old .0) 0 ≡ 0 → lookup m (t .key) ≡ some (value s (t .old))
     at-present b q = sim (t .key) (value s (t .old)) .1 (old-present b q)
@@ -144,7 +148,7 @@ module _ (z : Sizes) (lim : Limited z) (s : Tables) (kept : Kept z s) (own : Own
     decided (Acts.deletes b q i u) d =
         inr (on-present m (t .operation) (t .key) (t .argument) (t .function) (value s (t .old)) (at-present b q) ∙ i m, gone)
       where
-        gone : (v : ℕ) → PresentBy z (Rows.after z lim s kept ts (write.Delete (t .old))) (t .key) v → ⊥
+        gone : (v : ℕ) → PresentBy z (Rows.after z lim s kept ts ss (write.Delete (t .old))) (t .key) v → ⊥
         gone v p = one (sym (getD-set-same (s .marks) (t .old .0) 1 0 (rw (kept .marks-sized) b)) ∙ ap (λ (h : ℕ). getD (set (s .marks) (t .old .0) 1) h 0) (named-one z lim s kept un b (p .inside) (lively .old-live n b q) (p .named)) ∙ p .undeleted)
           where
             one : _≡_ {A = ℕ} 1 0 → ⊥

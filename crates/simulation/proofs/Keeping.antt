@@ -14,8 +14,8 @@ use Rattle.rules.specs.declared.ChunkNo.{ChunkNo}
 use Rattle.rules.specs.declared.EntryNo.{EntryNo}
 use Rattle.rules.specs.declared.HandleNo.{HandleNo}
 use Rattle.rules.specs.declared.Decision.{Decision}
-use Rattle.rules.specs.Words.{_and_, _or_, noChunk, usesFunction, scan, idle, toDrain, toCopy, toSwap, toRelease}
-use Rattle.rules.specs.Tables.{Tables, chunk, entryAt, entry, task, putTask, withDirectory}
+use Rattle.rules.specs.Words.{_and_, _or_, noChunk, usesFunction, isScan, idle, toDrain, toCopy, toSwap, toRelease}
+use Rattle.rules.specs.Tables.{Tables, chunk, entryAt, entry, task, withDirectory}
 use Rattle.rules.specs.Stages
 use Rattle.rules.specs.Rebalance.{Outcome, unusedCount, publishedOn, heldChunk, begins, drains, swapsIn, releases, rebalanceDoes}
 use Rattle.rules.specs.Calls.{Call, starts, steps, does}
@@ -56,19 +56,19 @@ module _ (z : Sizes) (lim : Limited z) (s : Tables) (kept : Kept z s) (held : He
   -- ---- a step writes to no chunk of the rebalance
   module _ (n : ℕ) where
     abbrev x : Decision
-    x = Stages.decide z s (task s n)
+    x = Stages.decide z s n (task s n)
 
     abbrev s′ : Tables
-    s′ = Stages.apply z (putTask s n (x .task)) (x .write)
+    s′ = Stages.apply z (Stages.putOwn z s n (x .task)) (x .write)
 
     allowed : Allowed z (s .chunks) (s .entries) (x .write)
-    allowed = decides-fine z lim s (kept .tables) (task s n) (kept .tasks n) .allowed
+    allowed = decides-fine z lim s (kept .tables) (task s n) (kept .tasks n) n .allowed
 
     same-directory : s′ .directory ≡ s .directory
-    same-directory = applied-by z lim (putTask s n (x .task)) (kept .tables) (x .write) allowed .directory
+    same-directory = applied-by z lim (Stages.putOwn z s n (x .task)) (kept .tables) (x .write) allowed .directory
 
     rows : (c : ChunkNo) → c .0 < z .chunks → (task s n .published ≡ 1 → c ≢ task s n .chunk) → (e : EntryNo) → e .0 < z .entries → RowKept z (entry z s c e) (entryAt z (s′ .entries) c e)
-    rows c b ne e i = frame z lim s kept (set (s .tasks) n (x .task)) n (decides-act z s (task s n) (kept .tasks n)) allowed c e (record { chunk = b; entry = i }) ne
+    rows c b ne e i = frame z lim s kept (set (s .tasks) n (x .task)) _ n (decides-act z s (task s n) (kept .tasks n) n) allowed c e (record { chunk = b; entry = i }) ne
 
     step-done : CopiedIn s′
     step-done e = subst (λ (d : Directory). Copied z d (s′ .entries)) (sym same-directory) there
@@ -106,7 +106,7 @@ module _ (z : Sizes) (lim : Limited z) (s : Tables) (kept : Kept z s) (held : He
   start-copied n op k a f =
       picked O (leb (z .tasks) n) (λ _. copied)
       (λ _. picked O (eqb (task s n .stage) 0)
-      (λ _. picked O (ltb op 1 or ltb 7 op or (usesFunction op and (ltb f 1 or ltb 3 f))) (λ _. copied) (λ _. picked O (eqb op scan and ltb a k) (λ _. copied) (λ _. copied)))
+      (λ _. picked O (ltb op 1 or ltb 8 op or (usesFunction op and (ltb f 1 or ltb 3 f))) (λ _. copied) (λ _. picked O (isScan op and ltb a k) (λ _. copied) (λ _. copied)))
       (λ _. copied))
     where
       O : Outcome → Type 0

@@ -15,8 +15,8 @@ use Rattle.rules.specs.declared.ChunkNo.{ChunkNo}
 use Rattle.rules.specs.declared.EntryNo.{EntryNo}
 use Rattle.rules.specs.declared.HandleNo.{HandleNo}
 use Rattle.rules.specs.declared.Decision.{Decision}
-use Rattle.rules.specs.Words.{_and_, _or_, NONE, usesFunction, scan}
-use Rattle.rules.specs.Tables.{Tables, idleTask, emptyEntry, chunkAt, chunk, entryAt, row, task, putTask}
+use Rattle.rules.specs.Words.{_and_, _or_, NONE, usesFunction, isScan}
+use Rattle.rules.specs.Tables.{Tables, idleTask, emptyEntry, chunkAt, chunk, entryAt, row, task}
 use Rattle.rules.specs.Walks.{lowestFree}
 use Rattle.rules.specs.Stages
 use Rattle.rules.specs.Rebalance.{Outcome, begins}
@@ -68,19 +68,19 @@ module _ (z : Sizes) (lim : Limited z) (s : Tables) (kept : Kept z s) (n : ℕ) 
   t = task s n
 
   abbrev x : Decision
-  x = Stages.decide z s (task s n)
+  x = Stages.decide z s n (task s n)
 
   abbrev pub s′ : Tables
-  s′ = Stages.apply z (putTask s n (x .task)) (x .write)
+  s′ = Stages.apply z (Stages.putOwn z s n (x .task)) (x .write)
 
   pub allowed : Allowed z (s .chunks) (s .entries) (x .write)
-  allowed = decides-fine z lim s (kept .tables) (task s n) (kept .tasks n) .allowed
+  allowed = decides-fine z lim s (kept .tables) (task s n) (kept .tasks n) n .allowed
 
   pub acts : Acts z s t (x .write)
-  acts = decides-act z s (task s n) (kept .tasks n)
+  acts = decides-act z s (task s n) (kept .tasks n) n
 
-  pub applied : Applied z (putTask s n (x .task)) s′
-  applied = applied-by z lim (putTask s n (x .task)) (kept .tables) (x .write) allowed
+  pub applied : Applied z (Stages.putOwn z s n (x .task)) s′
+  applied = applied-by z lim (Stages.putOwn z s n (x .task)) (kept .tables) (x .write) allowed
 
   pub same-status : (c : ChunkNo) → chunkAt (s′ .chunks) c .status ≡ chunk s c .status
   same-status = applied .written .same .status
@@ -96,11 +96,11 @@ module _ (z : Sizes) (lim : Limited z) (s : Tables) (kept : Kept z s) (n : ℕ) 
       }
     where
       kept-row : (e : EntryNo) → e .0 < z .entries → entryAt z (s .entries) (v .chunk) e .handle .0 ≡ h → RowKept z (entryAt z (s .entries) (v .chunk) e) (entryAt z (s′ .entries) (v .chunk) e)
-      kept-row e b q = row-then z lim s kept (set (s .tasks) n (x .task)) n marked acts allowed (v .chunk) e (record { chunk = v .numbered; entry = b }) (rw q i) (rw q m)
+      kept-row e b q = row-then z lim s kept (set (s .tasks) n (x .task)) _ n marked acts allowed (v .chunk) e (record { chunk = v .numbered; entry = b }) (rw q i) (rw q m)
 
   -- what a chunk names it named before, or a deciding swap has named it
   pub named-back : (c : ChunkNo) → c .0 < z .chunks → (h k : ℕ) → h < z .handles → NamedIn z (s′ .entries) c h k → NamedIn z (s .entries) c h k ⊎ NewName z s t c h k
-  named-back c b h k i v = go (row-back z lim s kept (set (s .tasks) n (x .task)) n acts allowed c (v .entry) (record { chunk = b; entry = v .inside }) (rw (v .names) i))
+  named-back c b h k i v = go (row-back z lim s kept (set (s .tasks) n (x .task)) _ n acts allowed c (v .entry) (record { chunk = b; entry = v .inside }) (rw (v .names) i))
     where
       go : RowKept z (entryAt z (s .entries) c (v .entry)) (entryAt z (s′ .entries) c (v .entry)) ⊎ NewAt z s t c (v .entry) (entryAt z (s′ .entries) c (v .entry)) → NamedIn z (s .entries) c h k ⊎ NewName z s t c h k
       go (inl r) = inl (record { entry = v .entry; inside = v .inside; names = was; keyed = sym (r .1 (rw was i)) ∙ v .keyed })
@@ -114,7 +114,7 @@ module _ (z : Sizes) (lim : Limited z) (s : Tables) (kept : Kept z s) (n : ℕ) 
   named-not-free h k v b p = free-unnamed z (lim .handles) s (kept .tables .entries-sized) b (v .chunk) (v .entry) (v .row) (v .names ∙ p)
 
   pub mark-was : (h : ℕ) → (lowestFree z s .0 < z .handles → h ≢ lowestFree z s .0) → getD (s′ .marks) h 0 ≡ 0 → getD (s .marks) h 0 ≡ 0
-  mark-was = mark-back z lim s kept (set (s .tasks) n (x .task)) n acts
+  mark-was = mark-back z lim s kept (set (s .tasks) n (x .task)) _ n acts
 
   module _ (held : Held z s) (marked : Marked z s) (lively : Lively z s) where
     undeleted-then : (h k : ℕ) → h < z .handles → getD (s′ .marks) h 0 ≡ 0 → NamedUnder z (s′ .entries) h k → LiveNamed z (s′ .chunks) (s′ .entries) h k
@@ -161,8 +161,8 @@ module _ (z : Sizes) (lim : Limited z) (s : Tables) (kept : Kept z s) (lively : 
   start-lively n op k a f =
       picked O (leb (z .tasks) n) (λ _. lively)
       (λ b. picked O (eqb (task s n .stage) 0)
-      (λ _. picked O (ltb op 1 or ltb 7 op or (usesFunction op and (ltb f 1 or ltb 3 f))) (λ _. lively)
-      (λ _. picked O (eqb op scan and ltb a k) (λ _. lively) (λ _. record { undeleted-live = lively .undeleted-live; old-live = λ m. go m (put-tasks z (s .tasks) n (started z s op k a f) (rw (kept .tasks-sized) (leb-false _ _ b)) m) })))
+      (λ _. picked O (ltb op 1 or ltb 8 op or (usesFunction op and (ltb f 1 or ltb 3 f))) (λ _. lively)
+      (λ _. picked O (isScan op and ltb a k) (λ _. lively) (λ _. record { undeleted-live = lively .undeleted-live; old-live = λ m. go m (put-tasks z (s .tasks) n (started z s op k a f) (rw (kept .tasks-sized) (leb-false _ _ b)) m) })))
       (λ _. lively))
     where
       O : Outcome → Type 0

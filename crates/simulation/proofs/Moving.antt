@@ -28,7 +28,7 @@ use Rattle.statements.specs.Sound.{Limited}
 use Rattle.facts.specs.Facts.{Rebalancing, Kept}
 use Rattle.facts.proofs.Writes.{same-chunk}
 use Rattle.facts.proofs.Swapping
-use Rattle.facts.proofs.Swapping.{beforeOld}
+use Rattle.facts.specs.Swapped.{beforeOld}
 use Rattle.facts.proofs.SwapIn.{swap-by, swap-in-kept}
 use Rattle.handles.specs.Owned.{Sourced}
 use Rattle.handles.proofs.Naming.{sourced-same}
@@ -41,7 +41,7 @@ use Rattle.simulation.proofs.Copied.{named-like, SameLive, copy-names}
 
 module _ (z : Sizes) (lim : Limited z) (s : Tables) (kept : Kept z s) (own : OwnedBy z s) (held : Held z s) (un : UnlinkedNone z (s .chunks) (s .entries)) (copied : CopiedThen z (s .directory) (s .entries)) where
   -- every chunk's status is as it was
-  same-live : (cs : List Chunk) (d : Directory) → ((c : ChunkNo) → chunkAt cs c .status ≡ chunk s c .status) → SameLive z s (record { directory = d; tasks = s .tasks; chunks = cs; entries = s .entries; values = s .values; marks = s .marks })
+  same-live : (cs : List Chunk) (d : Directory) → ((c : ChunkNo) → chunkAt cs c .status ≡ chunk s c .status) → SameLive z s (record { directory = d; tasks = s .tasks; chunks = cs; entries = s .entries; values = s .values; marks = s .marks; stacks = s .stacks })
   same-live cs d same =
       record {
         to = λ h k i v. record { chunk = v .chunk; numbered = v .numbered; isLive = same (v .chunk) ∙ v .isLive; named = v .named };

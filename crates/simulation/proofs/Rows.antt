@@ -20,7 +20,7 @@ use Rattle.rules.specs.declared.HandleNo.{HandleNo}
 use Rattle.rules.specs.declared.Write.{Write}
 use Rattle.rules.specs.declared.Write.the-variants as write
 use Rattle.rules.specs.Words.{NONE, entryNo, noHandle, noEntry}
-use Rattle.rules.specs.Tables.{Tables, emptyEntry, chunk, entryAt, entry, row, task, withTasks}
+use Rattle.rules.specs.Tables.{Tables, emptyEntry, chunk, entryAt, entry, row, task, withOwn}
 use Rattle.rules.specs.Walks.{lowestFree}
 use Rattle.rules.specs.Stages
 use Rattle.laws.proofs.Tests.{picked}
@@ -55,10 +55,10 @@ pub record NewAt (z : Sizes) (s : Tables) (t : Task) (c : ChunkNo) (e : EntryNo)
   pub key : y .key ≡ entryAt z (s .entries) (t .chunk) (t .entry) .key
   pub decided : decides z s t ≡ true
 
-module _ (z : Sizes) (lim : Limited z) (s : Tables) (kept : Kept z s) (ts : List Task) where
+module _ (z : Sizes) (lim : Limited z) (s : Tables) (kept : Kept z s) (ts : List Task) (ss : List (List EntryNo)) where
   -- the tables after the write
   abbrev pub after : Write → Tables
-  after w = Stages.apply z (withTasks s ts) w
+  after w = Stages.apply z (withOwn s ts ss) w
 
   len : length (s .entries) ≡ z .chunks * z .entries
   len = kept .tables .entries-sized

@@ -11,7 +11,7 @@ use borrow.Author.Tests.{lt-ltb, le-ltb, leb-true, leb-false, eqb-true}
 use Rattle.rules.specs.declared.Sizes.{Sizes}
 use Rattle.rules.specs.declared.Task.{Task}
 use Rattle.rules.specs.declared.Entry.{Entry}
-use Rattle.rules.specs.Words.{_and_, _or_, usesFunction, scan}
+use Rattle.rules.specs.Words.{_and_, _or_, usesFunction, isScan}
 use Rattle.rules.specs.Tables.{Tables, emptyEntry, row, task, withTasks}
 use Rattle.rules.specs.Walks.{Present}
 use Rattle.rules.specs.Rebalance.{Outcome, begins}
@@ -66,7 +66,7 @@ module _ (z : Sizes) (lim : Limited z) where
     start-sim n op k a f =
         picked O (leb (z .tasks) n) (λ _. sim)
         (λ _. picked O (eqb (task s n .stage) 0)
-        (λ _. picked O (ltb op 1 or ltb 7 op or (usesFunction op and (ltb f 1 or ltb 3 f))) (λ _. sim) (λ _. picked O (eqb op scan and ltb a k) (λ _. sim) (λ _. task-sim _)))
+        (λ _. picked O (ltb op 1 or ltb 8 op or (usesFunction op and (ltb f 1 or ltb 3 f))) (λ _. sim) (λ _. picked O (isScan op and ltb a k) (λ _. sim) (λ _. task-sim _)))
         (λ _. sim))
       where
         O : Outcome → Type 0

@@ -25,8 +25,8 @@ use Rattle.stages.specs.Lengths.{Holds, Held}
 use Rattle.stages.specs.Walked.{Walked}
 
 -- ---- a stage by its number
-pub at : (n : ℕ) (z : Sizes) (s : Tables) (t : Task) → t .stage ≡ n → stageDoes n z s t ≡ decide z s t
-at n z s t e = ap (λ (m : ℕ). stageDoes m z s t) (sym e)
+pub at : (n i : ℕ) (z : Sizes) (s : Tables) (t : Task) → t .stage ≡ n → stageDoes n i z s t ≡ decide z s i t
+at n i z s t e = ap (λ (m : ℕ). stageDoes m i z s t) (sym e)
 
 module _ (n : ℕ) (z : Sizes) (t : Task) (held : Held z t) (e : t .stage ≡ n) where
   pub chunk-held : getD stageList n (hold 0 0 0 0 0 0) .chunk ≡ 1 → t .chunk .0 < z .chunks

@@ -1,5 +1,5 @@
 -- What a stage asks of the words that it reads, and of the numbers that its task holds.
-use Prim.Native.Nat.{ℕ, _*_, _<_}
+use Prim.Native.Nat.{ℕ, _*_, _≤_, _<_}
 use mathlib.Core.Path.{_≡_}
 use mathlib.Core.List.{List}
 use lib.ListN.{length, getD}
@@ -8,7 +8,7 @@ use Rattle.rules.specs.declared.Task.{Task}
 use Rattle.rules.specs.Shape.{Hold, hold, stageList}
 
 abbrev pub Tasks : Sizes → List ℕ → Type 0
-Tasks z ts = length ts ≡ z .tasks * 11
+Tasks z ts = z .tasks * 11 ≤ length ts
 
 abbrev pub Chunks : Sizes → List ℕ → Type 0
 Chunks z cs = length cs ≡ z .chunks * 6

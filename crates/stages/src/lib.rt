@@ -1,5 +1,6 @@
 // What a step decides, stage by stage (document 01, "Stages of a task"): the task's row afterwards, what changes elsewhere, and the report.
 mod change;
+mod down;
 mod outcome;
 mod publish;
 mod scan;
@@ -14,7 +15,7 @@ ghost use Rattle.rules.specs.Stages.{decide};
 ghost use Rattle.rows.specs.Rows.{directoryOf, asLent, Lends};
 ghost use Rattle.stages.specs.Lengths.{Held};
 
-// The step looks at each of the 23 stage numbers.
+// The step looks at each of the 24 stage numbers, for task number `n`.
 pub fn decide(
     z: Sizes,
     directory: &[u64],
@@ -23,10 +24,11 @@ pub fn decide(
     entries: &[u64],
     values: &[u64],
     marks: &[u64],
+    n: usize,
     t: Task,
 ) -> Decision
-    requires { ⌜ Lends z directory tasks chunks entries values marks × Held z t × (t .stage < 23) × (directoryOf (now directory) .first .0 < z .chunks) ⌝ }
-    ensures { λ r. ⌜ r ≡ decide z (asLent z directory tasks chunks entries values marks) t ⌝ }
+    requires { ⌜ Lends z directory tasks chunks entries values marks × Held z t × (t .stage < 24) × (directoryOf (now directory) .first .0 < z .chunks) × (n < z .tasks) ⌝ }
+    ensures { λ r. ⌜ r ≡ decide z (asLent z directory tasks chunks entries values marks) n t ⌝ }
 {
     let stage = t.stage;
     match stage {
@@ -46,6 +48,7 @@ pub fn decide(
         18 => seek::read_again(z, entries, t),
         19..=21 => publish::removal(z, chunks, entries, t),
         22 => scan::scan(z, directory, chunks, entries, values, marks, t),
+        23 => down::scan_down(z, directory, tasks, chunks, entries, values, marks, n, t),
         _ => outcome::stays(t),
     }
 }

@@ -146,15 +146,22 @@ pub fn finishes_absent(t: Task) -> Decision
     }
 }
 
-// An idle task, or a number that is no stage.
-pub fn stays(t: Task) -> Decision
-    ensures { λ r. ⌜ ((z : Sizes) (s : Tables) → r ≡ stays z s t) ⌝ }
+// The row stays as it is.
+pub fn tells(t: Task, answer: Report) -> Decision
+    ensures { λ r. ⌜ r ≡ record { task = t; write = write.Nothing; report = answer } ⌝ }
 {
     Decision {
         task: t,
         write: Write::Nothing,
-        report: Report::Refused(3),
+        report: answer,
     }
+}
+
+// An idle task, or a number that is no stage.
+pub fn stays(t: Task) -> Decision
+    ensures { λ r. ⌜ ((z : Sizes) (s : Tables) → r ≡ stays z s t) ⌝ }
+{
+    tells(t, Report::Refused(3))
 }
 
 // Put, putIfAbsent and upsert.

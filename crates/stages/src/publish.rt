@@ -130,7 +130,7 @@ pub fn end_remove(t: Task) -> Decision
 // 10 to 12
 pub fn insertion(z: Sizes, chunks: &[u64], entries: &[u64], t: Task) -> Decision
     requires { ⌜ Held z t × Chunks z (now chunks) × Entries z (now entries) × (10 ≤ t .stage) × (t .stage ≤ 12) ⌝ }
-    ensures { λ r. ⌜ ((d ts vs ms : List ℕ) → r ≡ decide z (tables z d ts (now (chunks .entry)) (now (entries .entry)) vs ms) t) ⌝ }
+    ensures { λ r. ⌜ ((n : ℕ) (d ts vs ms : List ℕ) → r ≡ decide z (tables z d ts (now (chunks .entry)) (now (entries .entry)) vs ms) n t) ⌝ }
 {
     if t.stage == 10 {
         return publish(z, chunks, t);
@@ -145,7 +145,7 @@ pub fn insertion(z: Sizes, chunks: &[u64], entries: &[u64], t: Task) -> Decision
 // 13 to 15
 pub fn absence(z: Sizes, chunks: &[u64], entries: &[u64], t: Task) -> Decision
     requires { ⌜ Held z t × Chunks z (now chunks) × Entries z (now entries) × (13 ≤ t .stage) × (t .stage ≤ 15) ⌝ }
-    ensures { λ r. ⌜ ((d ts vs ms : List ℕ) → r ≡ decide z (tables z d ts (now (chunks .entry)) (now (entries .entry)) vs ms) t) ⌝ }
+    ensures { λ r. ⌜ ((n : ℕ) (d ts vs ms : List ℕ) → r ≡ decide z (tables z d ts (now (chunks .entry)) (now (entries .entry)) vs ms) n t) ⌝ }
 {
     if t.stage == 13 {
         return publish(z, chunks, t);
@@ -159,7 +159,7 @@ pub fn absence(z: Sizes, chunks: &[u64], entries: &[u64], t: Task) -> Decision
 // 19 to 21
 pub fn removal(z: Sizes, chunks: &[u64], entries: &[u64], t: Task) -> Decision
     requires { ⌜ Held z t × Chunks z (now chunks) × Entries z (now entries) × (19 ≤ t .stage) × (t .stage ≤ 21) ⌝ }
-    ensures { λ r. ⌜ ((d ts vs ms : List ℕ) → r ≡ decide z (tables z d ts (now (chunks .entry)) (now (entries .entry)) vs ms) t) ⌝ }
+    ensures { λ r. ⌜ ((n : ℕ) (d ts vs ms : List ℕ) → r ≡ decide z (tables z d ts (now (chunks .entry)) (now (entries .entry)) vs ms) n t) ⌝ }
 {
     if t.stage == 19 {
         return publish(z, chunks, t);

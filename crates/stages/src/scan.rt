@@ -46,6 +46,17 @@ pub fn goes_on(z: Sizes, chunks: &[u64], next: ChunkNo, k: u64) -> bool
     false
 }
 
+// The handle is one of the table, and its mark is 0.
+pub fn is_undeleted(z: Sizes, marks: &[u64], h: HandleNo) -> bool
+    ensures { λ r. ⌜ r ≡ undeleted z (now (marks .entry)) h ⌝ }
+{
+    let i = h.0 as usize;
+    if z.handles <= i {
+        return false;
+    }
+    rows::word_at(marks, h) == 0
+}
+
 // The entry's key lies in the range, and it names an undeleted handle.
 pub fn gives(z: Sizes, marks: &[u64], x: Entry, from: u64, to: u64) -> bool
     ensures { λ r. ⌜ r ≡ (leb from (x .key) and ltb (x .key) to and undeleted z (now (marks .entry)) (x .handle)) ⌝ }
@@ -56,12 +67,7 @@ pub fn gives(z: Sizes, marks: &[u64], x: Entry, from: u64, to: u64) -> bool
     if to <= x.key {
         return false;
     }
-    let h = x.handle;
-    let i = h.0 as usize;
-    if z.handles <= i {
-        return false;
-    }
-    rows::word_at(marks, h) == 0
+    is_undeleted(z, marks, x.handle)
 }
 
 // Along the live chunks to the one that has the cursor, then along its list to the first present key in range.

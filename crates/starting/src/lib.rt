@@ -8,13 +8,13 @@ use rules::Sizes;
 use rules::Task;
 ghost use mathlib.Core.Path.{_≡_};
 ghost use mathlib.Core.List.{List};
-ghost use Prim.Native.Nat.{ℕ, _*_};
+ghost use Prim.Native.Nat.{ℕ, _+_, _*_};
 ghost use lib.ListN.{length};
 ghost use lib.Dec.{eqb, ltb};
 ghost use Rattle.rules.specs.declared.Sizes.{Sizes};
-ghost use Rattle.rules.specs.Words.{pick, _and_, _or_, get, remove, scan, usesFunction};
+ghost use Rattle.rules.specs.Words.{pick, _and_, _or_, get, remove, isScan, usesFunction};
 ghost use Rattle.rules.specs.Tables.{Tables};
-ghost use Rattle.rules.specs.Calls.{started, starts};
+ghost use Rattle.rules.specs.Calls.{firstStage, started, starts};
 ghost use Rattle.rows.specs.Rows.{tables};
 
 // Upsert and compute.
@@ -27,14 +27,24 @@ pub fn uses_function(op: u64) -> bool
     op == 5
 }
 
-// No operation of 1 to 7, or no function of 1 to 3 where one is used.
+// A scan, upward or down.
+pub fn is_scan(op: u64) -> bool
+    ensures { λ r. ⌜ r ≡ isScan op ⌝ }
+{
+    if op == 7 {
+        return true;
+    }
+    op == 8
+}
+
+// No operation of 1 to 8, or no function of 1 to 3 where one is used.
 pub fn unknown(op: u64, f: u64) -> bool
-    ensures { λ r. ⌜ r ≡ (ltb op 1 or ltb 7 op or (usesFunction op and (ltb f 1 or ltb 3 f))) ⌝ }
+    ensures { λ r. ⌜ r ≡ (ltb op 1 or ltb 8 op or (usesFunction op and (ltb f 1 or ltb 3 f))) ⌝ }
 {
     if op < 1 {
         return true;
     }
-    if 7 < op {
+    if 8 < op {
         return true;
     }
     if !uses_function(op) {
@@ -48,20 +58,23 @@ pub fn unknown(op: u64, f: u64) -> bool
 
 // A scan whose lower end lies above the upper.
 pub fn backwards(op: u64, k: u64, a: u64) -> bool
-    ensures { λ r. ⌜ r ≡ (eqb op scan and ltb a k) ⌝ }
+    ensures { λ r. ⌜ r ≡ (isScan op and ltb a k) ⌝ }
 {
-    if op == 7 {
+    if is_scan(op) {
         return a < k;
     }
     false
 }
 
-// A scan starts at 22 and all others at 1.
+// A scan starts at 22, a scan down at 23, and all others at 1.
 pub fn first_stage(op: u64) -> u64
-    ensures { λ r. ⌜ r ≡ pick (eqb op scan) 22 1 ⌝ }
+    ensures { λ r. ⌜ r ≡ firstStage op ⌝ }
 {
     if op == 7 {
         return 22;
+    }
+    if op == 8 {
+        return 23;
     }
     1
 }
@@ -109,7 +122,7 @@ pub fn started(op: u64, k: u64, a: u64, f: u64) -> Task
 
 // Refusals 1, 2, 5 and 4, or the task's row is that of the operation.
 pub fn start(z: Sizes, tasks: &mut [u64], n: u64, op: u64, k: u64, a: u64, f: u64) -> Report
-    requires { ⌜ length (now tasks) ≡ z .tasks * 11 ⌝ }
+    requires { ⌜ length (now tasks) ≡ z .tasks * 11 + z .tasks * z .entries ⌝ }
     ensures { λ r. ⌜ ((d cs es vs ms : List ℕ) → (r ≡ starts z (tables z d (now (tasks .entry)) cs es vs ms) n op k a f .report) × (tables z d (now (tasks .exit)) cs es vs ms ≡ starts z (tables z d (now (tasks .entry)) cs es vs ms) n op k a f .tables)) ⌝ }
 {
     let i = n as usize;

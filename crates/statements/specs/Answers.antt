@@ -4,12 +4,14 @@ use mathlib.Core.Path.{_≡_}
 use mathlib.Core.Logic.{_⊎_, _≢_, _↔_}
 use mathlib.Core.Bool.{true, false}
 use mathlib.Core.Option.{none, some}
+use lib.Dec.{eqb}
 use Rattle.rules.specs.declared.Sizes.{Sizes}
 use Rattle.rules.specs.declared.Report.{Report}
 use Rattle.rules.specs.declared.Report.the-variants as report
-use Rattle.rules.specs.Words.{scan}
+use Rattle.rules.specs.Words.{pick, NONE, scan, scanDown, isScan}
+use Rattle.rules.specs.Tables.{stack, chunk}
 use Rattle.rules.specs.Told.{isAnswer}
-use Rattle.rules.specs.Walks.{Present}
+use Rattle.rules.specs.Walks.{depth, Present}
 use Rattle.rules.specs.Calls.{Call}
 use Rattle.rules.specs.Calls.Call.{step}
 use Rattle.rules.specs.Map.{pairKey, Ascends, lookup, effect, sequential}
@@ -52,7 +54,7 @@ module _ (z : Sizes) (run : ℕ → Call) where
     pub once : (n op k a f j i : ℕ) → Working z run n op k a f j i → DecidesAt z run n i → (x : ℕ) → j < x → x < i → DecidesAt z run n x → ⊥
     pub changes : (n op k a f j i : ℕ) → Working z run n op k a f j i → DecidesAt z run n i → mapAt z run (suc i) ≡ sequential (mapAt z run i) op k a f .map
     -- its answer is the map's at that step, or, where it has none, right at some moment between its first step and its last
-    pub answered : (n op k a f j i : ℕ) → Working z run n op k a f j i → op ≢ scan → run i ≡ step n → isAnswer (reportAt z run i) ≡ true →
+    pub answered : (n op k a f j i : ℕ) → Working z run n op k a f j i → isScan op ≡ false → run i ≡ step n → isAnswer (reportAt z run i) ≡ true →
         ByChange n op k a f j i (reportAt z run i) ⊎ ByLooking n op k a f j i (reportAt z run i)
     -- "An operation ended by refusal 9 has no deciding step"
     pub unserved : (n op k a f j i : ℕ) → Working z run n op k a f j i → run i ≡ step n → reportAt z run i ≡ report.Refused 9 → NeverDecides n j i
@@ -79,14 +81,25 @@ module _ (z : Sizes) (run : ℕ → Call) where
     pub before : at < i
     pub gives : GivesAt n at q value
 
-  -- of step i of a scan from k to a on task n that call j started
-  pub record ScansAt (n k a j i : ℕ) : Type 0 where
-    -- a pair is present at its step, with that value; its key lies in the range: "the lower end counts, the upper doesn't"; keys ascend strictly
+  -- step i of a downward scan comes nearer to its end: it takes an entry off its stack, or holds its first chunk, or one with a lower minimum key
+  pub data SinksAt (n i : ℕ) : Type 0 where
+    takes : depth z (stack (tablesAt z run (suc i)) n) < depth z (stack (tablesAt z run i) n) → SinksAt n i
+    begins : taskAt z run i n .chunk .0 ≡ NONE → taskAt z run (suc i) n .chunk .0 < z .chunks → SinksAt n i
+    lowers : chunk (tablesAt z run (suc i)) (taskAt z run (suc i) n .chunk) .min < chunk (tablesAt z run i) (taskAt z run i n .chunk) .min → SinksAt n i
+
+  -- "keys ascend strictly", downward "with falling keys": q comes after p
+  abbrev pub Comes : ℕ → ℕ → ℕ → Type 0
+  Comes op p q = pick (eqb op scanDown) (q < p) (p < q)
+
+  -- of step i of a scan, up or down, from k to a on task n that call j started
+  pub record ScansAt (n op k a j i : ℕ) : Type 0 where
+    -- a pair is present at its step, with that value; its key lies in the range: "the lower end counts, the upper doesn't"; it comes after those given before
     pub present : (q v : ℕ) → GivesAt n i q v → lookup (mapAt z run i) q ≡ some v
     pub ranged : (q v : ℕ) → GivesAt n i q v → (k ≤ q) × (q < a)
-    pub ascends : (x p q v w : ℕ) → j < x → x < i → GivesAt n x p v → GivesAt n i q w → p < q
-    -- a step that gives a pair or moves on makes the cursor rise
-    pub rises : isAnswer (reportAt z run i) ≡ false → taskAt z run i n .key < taskAt z run (suc i) n .key
+    pub strict : (x p q v w : ℕ) → j < x → x < i → GivesAt n x p v → GivesAt n i q w → Comes op p q
+    -- a step that gives a pair or moves on makes an upward scan's cursor rise, and brings a downward one nearer to its end
+    pub rises : op ≡ scan → isAnswer (reportAt z run i) ≡ false → taskAt z run i n .key < taskAt z run (suc i) n .key
+    pub sinks : op ≡ scanDown → isAnswer (reportAt z run i) ≡ false → SinksAt n i
     -- at its end a key in range that is present at every moment from its first step to its last has been given; one absent at every such moment never is
     pub complete : isAnswer (reportAt z run i) ≡ true → (q : ℕ) → k ≤ q → q < a → ((p : ℕ) → During n j i p → lookup (mapAt z run p) q ≢ none) → Given n j i q
     pub absent : (q : ℕ) → ((p : ℕ) → During n j i p → lookup (mapAt z run p) q ≡ none) → Given n j i q → ⊥

@@ -16,7 +16,7 @@ pub struct Turned {
     pub report: Report,
 }
 
-// The stage, with the task by value.
+// The stage of task number `n`, with the task by value.
 pub fn move_on(
     z: Sizes,
     directory: &[u64],
@@ -25,12 +25,13 @@ pub fn move_on(
     entries: &mut [u64],
     values: &mut [u64],
     marks: &mut [u64],
+    n: usize,
     t: Task,
 ) -> Turned
-    requires { ⌜ Lends z directory tasks chunks entries values marks × Held z t × (t .stage < 23) × (directoryOf (now directory) .first .0 < z .chunks) ⌝ }
-    ensures { λ r. ⌜ (r .task ≡ decide z (asLent z directory tasks chunks entries values marks) t .task) × (gives (asLeft z directory tasks chunks entries values marks) (r .report) ≡ writes z (asLent z directory tasks chunks entries values marks) t) ⌝ }
+    requires { ⌜ Lends z directory tasks chunks entries values marks × Held z t × (t .stage < 24) × (directoryOf (now directory) .first .0 < z .chunks) × (n < z .tasks) ⌝ }
+    ensures { λ r. ⌜ (r .task ≡ decide z (asLent z directory tasks chunks entries values marks) n t .task) × (gives (asLeft z directory tasks chunks entries values marks) (r .report) ≡ writes z (asLent z directory tasks chunks entries values marks) n t) ⌝ }
 {
-    let x = stages::decide(z, directory, tasks, chunks, entries, values, marks, t);
+    let x = stages::decide(z, directory, tasks, chunks, entries, values, marks, n, t);
     let next = x.task;
     let w = x.write;
     let report = x.report;
@@ -47,12 +48,13 @@ pub fn step(
     entries: &mut [u64],
     values: &mut [u64],
     marks: &mut [u64],
+    n: usize,
     t: &mut Task,
 ) -> Report
-    requires { ⌜ Lends z directory tasks chunks entries values marks × Held z (now t) × (now t .stage < 23) × (directoryOf (now directory) .first .0 < z .chunks) ⌝ }
-    ensures { λ r. ⌜ (now (t .exit) ≡ decide z (asLent z directory tasks chunks entries values marks) (now (t .entry)) .task) × (gives (asLeft z directory tasks chunks entries values marks) r ≡ writes z (asLent z directory tasks chunks entries values marks) (now (t .entry))) ⌝ }
+    requires { ⌜ Lends z directory tasks chunks entries values marks × Held z (now t) × (now t .stage < 24) × (directoryOf (now directory) .first .0 < z .chunks) × (n < z .tasks) ⌝ }
+    ensures { λ r. ⌜ (now (t .exit) ≡ decide z (asLent z directory tasks chunks entries values marks) n (now (t .entry)) .task) × (gives (asLeft z directory tasks chunks entries values marks) r ≡ writes z (asLent z directory tasks chunks entries values marks) n (now (t .entry))) ⌝ }
 {
-    let x = move_on(z, directory, tasks, chunks, entries, values, marks, *t);
+    let x = move_on(z, directory, tasks, chunks, entries, values, marks, n, *t);
     *t = x.task;
     x.report
 }
@@ -66,10 +68,11 @@ pub fn lend(
     entries: &mut [u64],
     values: &mut [u64],
     marks: &mut [u64],
+    n: usize,
     t: Task,
 ) -> Turned
-    requires { ⌜ Lends z directory tasks chunks entries values marks × Held z t × (t .stage < 23) × (directoryOf (now directory) .first .0 < z .chunks) ⌝ }
-    ensures { λ r. ⌜ (r .task ≡ decide z (asLent z directory tasks chunks entries values marks) t .task) × (gives (asLeft z directory tasks chunks entries values marks) (r .report) ≡ writes z (asLent z directory tasks chunks entries values marks) t) ⌝ }
+    requires { ⌜ Lends z directory tasks chunks entries values marks × Held z t × (t .stage < 24) × (directoryOf (now directory) .first .0 < z .chunks) × (n < z .tasks) ⌝ }
+    ensures { λ r. ⌜ (r .task ≡ decide z (asLent z directory tasks chunks entries values marks) n t .task) × (gives (asLeft z directory tasks chunks entries values marks) (r .report) ≡ writes z (asLent z directory tasks chunks entries values marks) n t) ⌝ }
 {
     let mut own = t;
     let report = step(
@@ -80,6 +83,7 @@ pub fn lend(
         entries,
         values,
         marks,
+        n,
         &mut own,
     );
     Turned { task: own, report }

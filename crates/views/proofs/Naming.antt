@@ -4,7 +4,7 @@ use mathlib.Core.Path.{_≡_, refl, sym}
 use mathlib.Core.Logic.{_⊎_, inl, inr, ⊎-elim}
 use mathlib.Core.Bool.{true, false}
 use mathlib.Core.List.{List, [], _∷_, List·Memᴰ, List·Memᴰ·head, List·Memᴰ·tail, List·Memᴰ·not-nil, List·Memᴰ·cases-cons}
-use native.Mathlib.Nat.{not-suc-le-zero, le-of-suc-le-suc, le-trans, le-refl, add-zero, zero-add}
+use native.Mathlib.Nat.{not-suc-le-zero, le-of-suc-le-suc, le-refl, add-zero, zero-add}
 use native.Mathlib.Numerals.{add-one}
 use native.Mathlib.Omega.{arith}
 use lib.Dec.{eqb, ltb}
@@ -24,18 +24,9 @@ use Rattle.rules.specs.Rebalance.{namingFrom, unusedFrom, unusedCount}
 use Rattle.laws.specs.Counts.{Every}
 use Rattle.laws.proofs.Tests.{picked, by-test}
 use Rattle.views.specs.Views.{Links}
+use Rattle.views.proofs.Stacks.{ascends-above, ascends-from}
 
 -- ---- keys that ascend
-pub rising-above : (k : ℕ) (l : List Entry) → Ascends entryKey k l → Every (λ x. k ≤ x .key) l
-unfolding Ascends
-rising-above k [] r = λ x m. absurd (List·Memᴰ·not-nil m)
-rising-above k (y ∷ l) r = λ x m. ⊎-elim (λ (p : x ≡ y). rw p (r .0)) (λ n. omega (arith, r .0, rising-above _ l (r .1) x n)) (List·Memᴰ·cases-cons m)
-
-rising-less : (k j : ℕ) (l : List Entry) → k ≤ j → Ascends entryKey j l → Ascends entryKey k l
-unfolding Ascends
-rising-less k j [] le r = tt
-rising-less k j (x ∷ l) le r = (le-trans le (r .0), r .1)
-
 pub rising-take : (k n : ℕ) (l : List Entry) → Ascends entryKey k l → Ascends entryKey k (take n l)
 unfolding Ascends
 rising-take k zero l r = tt
@@ -57,7 +48,7 @@ pub take-below : (k n : ℕ) (l : List Entry) → n < length l → Ascends entry
 unfolding Ascends
 take-below k n [] b r = absurd (not-suc-le-zero b)
 take-below k zero (x ∷ l) b r = λ y m. absurd (List·Memᴰ·not-nil m)
-take-below k (suc n) (x ∷ l) b r = λ y m. ⊎-elim (λ (p : y ≡ x). rw p (first (rising-above _ l (r .1) _ (getD-in n l (le-of-suc-le-suc b))))) (λ o. take-below _ n l (le-of-suc-le-suc b) (r .1) y o) (List·Memᴰ·cases-cons m)
+take-below k (suc n) (x ∷ l) b r = λ y m. ⊎-elim (λ (p : y ≡ x). rw p (first (ascends-above entryKey _ l (r .1) _ (getD-in n l (le-of-suc-le-suc b))))) (λ o. take-below _ n l (le-of-suc-le-suc b) (r .1) y o) (List·Memᴰ·cases-cons m)
   where
     first : x .key + 1 ≤ getD l n emptyEntry .key → x .key < getD l n emptyEntry .key
     first p = omega arith
@@ -88,7 +79,7 @@ module _ (z : Sizes) (es : List Entry) (c : ChunkNo) (used : ℕ) (small : used 
   naming-rising (suc fuel) k e (x ∷ l) h =
       rw (h .0, lt-ltb (x .0) (z .entries) (omega (arith, h .1)))
       (picked (λ (r : List Entry). Ascends entryKey k r) (ltb (entryAt z es c x .handle .0) (z .handles))
-      (λ _. (h .2, naming-rising fuel _ _ l (h .3))) (λ _. rising-less k (entryAt z es c x .key + 1) (namingFrom z es c fuel (entryAt z es c x .next)) (omega (arith, h .2)) (naming-rising fuel _ _ l (h .3))))
+      (λ _. (h .2, naming-rising fuel _ _ l (h .3))) (λ _. ascends-from entryKey k (entryAt z es c x .key + 1) (namingFrom z es c fuel (entryAt z es c x .next)) (omega (arith, h .2)) (naming-rising fuel _ _ l (h .3))))
 
   pub naming-length : (fuel k : ℕ) (e : EntryNo) (l : List EntryNo) → Links z es c used k e l → length (namingFrom z es c fuel e) ≤ length l
   unfolding Links namingFrom

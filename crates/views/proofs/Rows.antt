@@ -7,7 +7,7 @@ use native.Mathlib.Nat.{not-suc-le-zero, le-of-suc-le-suc}
 use native.Mathlib.Decide.{decLt}
 use native.Mathlib.Omega.{arith}
 use lib.Dec.{eqb}
-use lib.ListN.{length, getD, set}
+use lib.ListN.{length, getD, set, List·getD-eq-default}
 use lib.Seq.{set-out}
 use Rattle.rules.specs.declared.Sizes.{Sizes}
 use Rattle.rules.specs.declared.Chunk.{Chunk}
@@ -20,6 +20,10 @@ use Rattle.rules.specs.Rebalance.{unusedCount}
 use Rattle.rules.specs.Shape.{liveCount}
 use Rattle.laws.proofs.Tests.{by-test}
 use Rattle.laws.proofs.Lists.{getD-set, row-within, row-block, row-place}
+
+-- a chunk that is not unused has a row
+pub in-use-row : (cs : List Chunk) (c : ChunkNo) → chunkAt cs c .status ≢ unused → c .0 < length cs
+in-use-row cs c u = elim (decLt (c .0) (length cs)) [ yes b ↦ b | no out ↦ absurd (u (ap (λ (x : Chunk). x .status) (List·getD-eq-default cs emptyChunk (omega arith)))) ]
 
 pub chunk-put : (cs : List Chunk) (d : ChunkNo) (x : Chunk) (c : ChunkNo) (P : Chunk → Type 0) → d .0 < length cs → (c ≡ d → P x) → (c ≢ d → P (chunkAt cs c)) → P (chunkAt (set cs (d .0) x) c)
 chunk-put cs d x c P b f g = getD-set cs (d .0) x emptyChunk (c .0) P b (λ e. f (ap chunkNo e)) (λ ne. g (λ e. ne (ap (λ (c : ChunkNo). c .0) e)))

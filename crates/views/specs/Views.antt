@@ -3,19 +3,28 @@ use Prim.Native.Nat.{ℕ, _+_, _≤_, _<_}
 use mathlib.Core.Path.{_≡_}
 use mathlib.Core.List.{List, [], _∷_, _++_}
 use lib.Dec.{eqb, ltb}
+use lib.ListN.{take}
 use Rattle.rules.specs.declared.Sizes.{Sizes}
 use Rattle.rules.specs.declared.Chunk.{Chunk}
 use Rattle.rules.specs.declared.Entry.{Entry}
 use Rattle.rules.specs.declared.ChunkNo.{ChunkNo}
 use Rattle.rules.specs.declared.EntryNo.{EntryNo}
 use Rattle.rules.specs.Words.{pick, NONE, live}
-use Rattle.rules.specs.Tables.{chunkAt, entryAt}
+use Rattle.rules.specs.Tables.{Tables, chunkAt, entryAt, stack}
+use Rattle.rules.specs.Walks.{depth}
 
 -- the list from e on is of these entries, used ones, keys ascending from k on
 module _ (z : Sizes) (es : List Entry) (c : ChunkNo) (used : ℕ) where
   unfoldable pub Links : ℕ → EntryNo → List EntryNo → Type 0
   Links k e [] = e .0 ≡ NONE
   Links k e (x ∷ l) = (e ≡ x) × (x .0 < used) × (k ≤ entryAt z es c x .key) × Links (entryAt z es c x .key + 1) (entryAt z es c x .next) l
+
+-- the entries on a stack of those words, from the bottom, and on a task's
+abbrev pub onWords : Sizes → List EntryNo → List EntryNo
+onWords z w = take (depth z w) w
+
+abbrev pub onStack : Sizes → Tables → ℕ → List EntryNo
+onStack z s n = onWords z (stack s n)
 
 -- an entry with the key k, put into a list of entries where its key belongs
 module _ (z : Sizes) (es : List Entry) (c : ChunkNo) (e : EntryNo) (k : ℕ) where

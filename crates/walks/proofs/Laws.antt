@@ -1,12 +1,15 @@
 -- One step of each walk, told by the row that the code has read.
-use Prim.Native.Nat.{ℕ, zero, suc, _+_, _-_, _≤_, _<_, zero-le}
+use Prim.Native.Nat.{ℕ, zero, suc, _+_, _*_, _-_, _≤_, _<_, zero-le}
 use mathlib.Core.Path.{_≡_, refl, sym, ap, _∙_}
 use mathlib.Core.Bool.{Bool, true, false}
 use mathlib.Core.List.{List, [], _∷_}
-use native.Mathlib.Nat.{lt-irrefl, le-antisymm}
-use native.Mathlib.Numerals.{sub-one}
-use borrow.Author.Tests.{lt-ltb, le-ltb, le-leb, lt-leb, eq-eqb, ne-eqb}
-use lib.Dec.{eqb}
+use native.Mathlib.Nat.{lt-irrefl, le-antisymm, zero-lt-suc, not-suc-le-zero, le-of-suc-le-suc, mul-le-mul-right}
+use native.Mathlib.Numerals.{add-one, sub-one}
+use native.Mathlib.Omega.{arith}
+use borrow.Author.Tests.{lt-ltb, le-ltb, ltb-true, ltb-false, le-leb, lt-leb, eq-eqb, ne-eqb}
+use lib.Dec.{eqb, ltb, leb}
+use lib.ListN.{length, getD, drop}
+use lib.Seq.{drop-cons, drop-nil}
 use Rattle.rules.specs.declared.Sizes.{Sizes}
 use Rattle.rules.specs.declared.Task.{Task}
 use Rattle.rules.specs.declared.Chunk.{Chunk}
@@ -14,12 +17,12 @@ use Rattle.rules.specs.declared.Entry.{Entry}
 use Rattle.rules.specs.declared.ChunkNo.{ChunkNo}
 use Rattle.rules.specs.declared.EntryNo.{EntryNo}
 use Rattle.rules.specs.declared.HandleNo.{HandleNo}
-use Rattle.rules.specs.Words.{pick, _and_, _or_, chunkNo, handleNo, noChunk, noEntry, noHandle, unused}
+use Rattle.rules.specs.Words.{pick, _and_, _or_, NONE, chunkNo, handleNo, noChunk, noEntry, noHandle, unused}
 use Rattle.rules.specs.Tables.{chunkAt, entryAt}
-use Rattle.rules.specs.Walks.{locateFrom, beforeFrom, findFrom, placeFrom, namedIn, heldIn, free, freeFrom}
+use Rattle.rules.specs.Walks.{locateFrom, beforeFrom, findFrom, placeFrom, withinFrom, depth, top, namedIn, heldIn, free, freeFrom}
 use Rattle.rules.specs.Rebalance.{unusedCount, unusedFrom, publishedOn, heldChunk}
-use Rattle.rows.specs.Rows.{rowsFrom}
-use Rattle.rows.proofs.Laws.{rows-step, rows-done}
+use Rattle.rows.specs.Rows.{rowsFrom, stackOf, stackRows}
+use Rattle.rows.proofs.Laws.{length-rows, row-read, rows-step, rows-done}
 
 -- a walk with fuel left has a step, and one without has none
 pub fuelled : {A : Type 0} (f : ℕ → A) (g : ℕ → A) → ((n : ℕ) → f (suc n) ≡ g n) → (left : ℕ) → 0 < left → f left ≡ g (left - 1)
@@ -99,6 +102,71 @@ module _ (z : Sizes) (es : List Entry) (c : ChunkNo) (e : EntryNo) where
   pub place-next : (below : EntryNo) (k left : ℕ) → 0 < left → e .0 < z .entries → (x : Entry) → x ≡ entryAt z es c e → x .key < k → placeFrom z es c left below e k ≡ placeFrom z es c (left - 1) e (x .next) k
   unfolding placeFrom
   place-next below k left p h x q m = fuelled (λ n. placeFrom z es c n below e k) (λ n. placeFrom z es c n e (x .next) k) (λ n. rw (lt-ltb _ _ h, ← q, lt-ltb _ _ m)) left p
+
+-- an entry of a chunk past the table
+pub row-above : (m n c e : ℕ) → m ≤ c → m * n ≤ c * n + e
+row-above m n c e h = omega (arith, mul-le-mul-right n h)
+
+-- the entries in range
+module _ (z : Sizes) (es : List Entry) (c : ChunkNo) (from to : ℕ) (e : EntryNo) where
+  pub within-spent : (left : ℕ) → left ≤ 0 → withinFrom z es c from to left e ≡ []
+  unfolding withinFrom
+  within-spent left h = rw (le-antisymm h zero-le)
+
+  pub within-out : (left : ℕ) → z .entries ≤ e .0 → withinFrom z es c from to left e ≡ []
+  unfolding withinFrom
+  within-out zero h = refl
+  within-out (suc n) h = rw (le-ltb _ _ h)
+
+  pub within-next : (left : ℕ) → 0 < left → e .0 < z .entries → (x : Entry) → x ≡ entryAt z es c e → (b : Bool) → b ≡ (leb from (x .key) and ltb (x .key) to) → withinFrom z es c from to left e ≡ pick b (e ∷ withinFrom z es c from to (left - 1) (x .next)) (withinFrom z es c from to (left - 1) (x .next))
+  unfolding withinFrom
+  within-next left p h x q b t = fuelled (λ n. withinFrom z es c from to n e) (λ n. pick b (e ∷ withinFrom z es c from to n (x .next)) (withinFrom z es c from to n (x .next))) (λ n. rw (lt-ltb _ _ h, ← q, ← t)) left p
+
+-- ---- up a stack
+module _ (z : Sizes) (ws : List ℕ) (n : ℕ) (task : n < z .tasks) where
+  abbrev pub stackIn : List EntryNo
+  stackIn = getD (stackRows z ws) n []
+
+  pub stack-length : length stackIn ≡ z .entries
+  stack-length = rw (row-read (stackOf z ws) (z .tasks) n [] task) (length-rows _ 0 (z .entries))
+
+  pub depth-here : (i : ℕ) → i < z .entries → (e : EntryNo) → e ≡ getD stackIn i noEntry → z .entries ≤ e .0 → depth z (drop i stackIn) ≡ 0
+  unfolding depth
+  depth-here i h e q l = rw (drop-cons stackIn i noEntry (rw stack-length h), ← q, le-ltb _ _ l)
+
+  pub depth-next : (i : ℕ) → i < z .entries → (e : EntryNo) → e ≡ getD stackIn i noEntry → e .0 < z .entries → depth z (drop i stackIn) ≡ depth z (drop (i + 1) stackIn) + 1
+  unfolding depth
+  depth-next i h e q l = rw (add-one i, drop-cons stackIn i noEntry (rw stack-length h), ← q, lt-ltb _ _ l)
+
+  pub depth-done : (i : ℕ) → z .entries ≤ i → depth z (drop i stackIn) ≡ 0
+  unfolding depth
+  depth-done i h = rw (drop-all stackIn i (rw stack-length h))
+    where
+      drop-all : (w : List EntryNo) (i : ℕ) → length w ≤ i → drop i w ≡ []
+      drop-all [] i h = drop-nil i
+      drop-all (x ∷ w) zero h = absurd (not-suc-le-zero h)
+      drop-all (x ∷ w) (suc i) h = drop-all w i (le-of-suc-le-suc h)
+
+module _ (z : Sizes) where
+  -- the one on top is an entry where the stack has one, and else is none
+  pub top-on : (w : List EntryNo) → 0 < depth z w → top z w .0 < z .entries
+  unfolding depth
+  top-on [] h = absurd (not-suc-le-zero h)
+  top-on (e ∷ w) h = go (ltb (e .0) (z .entries)) (depth z w) refl refl (top-on w) h
+    where
+      go : (b : Bool) (d : ℕ) → ltb (e .0) (z .entries) ≡ b → depth z w ≡ d → (0 < depth z w → top z w .0 < z .entries) → 0 < pick b (d + 1) 0 → getD (e ∷ w) (pick b (d + 1) 0 - 1) noEntry .0 < z .entries
+      go false d p q on h = absurd (not-suc-le-zero h)
+      go true zero p q on h = ltb-true _ _ p
+      go true (suc d) p q on h = rw (add-one, sub-one) (rw (q, sub-one) at (on (rw q (zero-lt-suc d))))
+
+  pub top-off : (w : List EntryNo) → z .entries ≤ NONE → depth z w ≡ 0 → z .entries ≤ top z w .0
+  unfolding depth
+  top-off [] fits h = fits
+  top-off (e ∷ w) fits h = go (ltb (e .0) (z .entries)) refl h
+    where
+      go : (b : Bool) → ltb (e .0) (z .entries) ≡ b → pick b (depth z w + 1) 0 ≡ 0 → z .entries ≤ getD (e ∷ w) (pick b (depth z w + 1) 0 - 1) noEntry .0
+      go false p h = ltb-false _ _ p
+      go true p h = absurd (omega arith)
 
 -- ---- through the rows of a table: some row passes the test
 pub record Some {A : Type 0} (some : List A → Bool) (test : A → Bool) : Type 0 where

@@ -1,4 +1,4 @@
-// The walks: along the live chunks, along a chunk's list, and through the rows of a table.
+// The walks: along the live chunks, along a chunk's list, up a stack, and through the rows of a table.
 use rules::Chunk;
 use rules::ChunkNo;
 use rules::Entry;
@@ -10,11 +10,13 @@ use rules::Task;
 ghost use mathlib.Core.Path.{_≡_};
 ghost use mathlib.Core.Bool.{Bool};
 ghost use Prim.Native.Nat.{ℕ, _+_, _*_, _<_, _≤_};
-ghost use lib.ListN.{length, drop};
+ghost use mathlib.Core.List.{[]};
+ghost use lib.ListN.{length, drop, getD};
 ghost use Rattle.rules.specs.Words.{noEntry};
-ghost use Rattle.rules.specs.Walks.{locateFrom, beforeFrom, findFrom, placeFrom, namedIn, heldIn, free, freeFrom};
+ghost use Rattle.rules.specs.Tables.{entryAt};
+ghost use Rattle.rules.specs.Walks.{locateFrom, beforeFrom, findFrom, placeFrom, depth, namedIn, heldIn, free, freeFrom};
 ghost use Rattle.rules.specs.Rebalance.{unusedCount, unusedFrom, publishedOn, heldChunk};
-ghost use Rattle.rows.specs.Rows.{taskRows, chunkRows, entryRows};
+ghost use Rattle.rows.specs.Rows.{taskRows, chunkRows, entryRows, stackRows};
 
 // ---- along the live chunks
 
@@ -108,6 +110,37 @@ pub fn place(z: Sizes, entries: &[u64], c: ChunkNo, head: EntryNo, k: u64) -> En
     below
 }
 
+// A chunk's entry; a chunk past the table has only empty ones.
+pub fn entry_in(z: Sizes, entries: &[u64], c: ChunkNo, e: EntryNo) -> Entry
+    requires { ⌜ (e .0 < z .entries) × (length (now entries) ≡ z .chunks * z .entries * 3) ⌝ }
+    ensures { λ r. ⌜ r ≡ entryAt z (entryRows (z .chunks * z .entries) (now (entries .entry))) c e ⌝ }
+{
+    let i = c.0 as usize;
+    if i < z.chunks {
+        rows::entry_at(z, entries, c, e)
+    } else {
+        rows::empty_entry()
+    }
+}
+
+// ---- up a stack
+
+// How many entries are on task `n`'s stack: its words before the first that is none.
+pub fn stack_depth(z: Sizes, tasks: &[u64], n: usize) -> usize
+    requires { ⌜ (n < z .tasks) × (length (now tasks) ≡ z .tasks * 11 + z .tasks * z .entries) ⌝ }
+    ensures { λ r. ⌜ (r ≡ depth z (getD (stackRows z (now (tasks .entry))) n [])) × (r ≤ z .entries) ⌝ }
+{
+    let mut i = 0;
+    while i < z.entries {
+        let e = rows::stack_at(z, tasks, n, i);
+        if z.entries <= e.0 as usize {
+            return i;
+        }
+        i += 1;
+    }
+    i
+}
+
 // ---- which handle is free
 
 // An entry of the first `n` rows names the handle.
@@ -147,7 +180,7 @@ pub fn held_in(n: usize, tasks: &[u64], h: HandleNo) -> bool
 
 // No entry names the handle, and no task holds it.
 pub fn is_free(z: Sizes, entries: &[u64], tasks: &[u64], h: HandleNo) -> bool
-    requires { ⌜ (length (now entries) ≡ z .chunks * z .entries * 3) × (length (now tasks) ≡ z .tasks * 11) ⌝ }
+    requires { ⌜ (length (now entries) ≡ z .chunks * z .entries * 3) × (z .tasks * 11 ≤ length (now tasks)) ⌝ }
     ensures { λ r. ⌜ r ≡ free (entryRows (z .chunks * z .entries) (now (entries .entry))) (taskRows (z .tasks) (now (tasks .entry))) h ⌝ }
 {
     if named_in(z.chunks * z.entries, entries, h) {
@@ -158,7 +191,7 @@ pub fn is_free(z: Sizes, entries: &[u64], tasks: &[u64], h: HandleNo) -> bool
 
 // The lowest free handle, or none.
 pub fn lowest_free(z: Sizes, entries: &[u64], tasks: &[u64]) -> HandleNo
-    requires { ⌜ (length (now entries) ≡ z .chunks * z .entries * 3) × (length (now tasks) ≡ z .tasks * 11) ⌝ }
+    requires { ⌜ (length (now entries) ≡ z .chunks * z .entries * 3) × (z .tasks * 11 ≤ length (now tasks)) ⌝ }
     ensures { λ r. ⌜ r ≡ freeFrom (entryRows (z .chunks * z .entries) (now (entries .entry))) (taskRows (z .tasks) (now (tasks .entry))) (z .handles) 0 ⌝ }
 {
     let mut n: u64 = 0;

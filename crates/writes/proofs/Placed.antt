@@ -63,41 +63,42 @@ module _ (z : Sizes) (s : Tables) where
     swaps-placed : (h : HandleNo) → t .chunk .0 < z .chunks → t .entry .0 < z .entries → Done (swaps z s t h)
     swaps-placed h c e = picked Done (eqb (entry z s (t .chunk) (t .entry) .handle .0) (t .old .0)) (c, e) tt
 
-  -- what the stage of that number decides, by a task that holds what the stage list says
-  abbrev At : Task → ℕ → Type 0
-  At t n = (getD stageList n (hold 0 0 0 0 0 0) .chunk ≡ 1 → t .chunk .0 < z .chunks) → (getD stageList n (hold 0 0 0 0 0 0) .entry ≡ 1 → t .entry .0 < z .entries) → Done (stageDoes n z s t)
+  -- what the stage of that number decides for task number i, by a task that holds what the stage list says
+  abbrev At : ℕ → Task → ℕ → Type 0
+  At i t n = (getD stageList n (hold 0 0 0 0 0 0) .chunk ≡ 1 → t .chunk .0 < z .chunks) → (getD stageList n (hold 0 0 0 0 0 0) .entry ≡ 1 → t .entry .0 < z .entries) → Done (stageDoes n i z s t)
 
-  quiet : (t : Task) (n : ℕ) → plain (stageDoes n z s t .write) ≡ true → At t n
-  quiet t n h c e = asks-nothing (stageDoes n z s t .write) h
+  quiet : (i : ℕ) (t : Task) (n : ℕ) → plain (stageDoes n i z s t .write) ≡ true → At i t n
+  quiet i t n h c e = asks-nothing (stageDoes n i z s t .write) h
 
   -- the law: what a step decides can be done
-  pub placed : (t : Task) → Held z t → t .stage < 23 → Placed z (s .chunks) (decide z s t .write)
+  pub placed : (i : ℕ) (t : Task) → Held z t → t .stage < 24 → Placed z (s .chunks) (decide z s i t .write)
   unfolding stageDoes plain
-  placed t held known =
-      stage-cases (At t)
-      (quiet t 0 refl)
-      (quiet t 1 refl)
-      (quiet t 2 (simp plainly))
-      (quiet t 3 (simp plainly))
-      (quiet t 4 (simp plainly))
-      (quiet t 5 (simp plainly))
+  placed i t held known =
+      stage-cases (At i t)
+      (quiet i t 0 refl)
+      (quiet i t 1 refl)
+      (quiet i t 2 (simp plainly))
+      (quiet i t 3 (simp plainly))
+      (quiet i t 4 (simp plainly))
+      (quiet i t 5 (simp plainly))
       (λ c e. takes-placed t (c refl))
       (λ c e. links-placed t (c refl) (e refl))
-      (quiet t 8 (simp plainly))
-      (quiet t 9 refl)
-      (quiet t 10 (simp plainly))
+      (quiet i t 8 (simp plainly))
+      (quiet i t 9 refl)
+      (quiet i t 10 (simp plainly))
       (λ c e. swaps-placed t (t .new) (c refl) (e refl))
-      (quiet t 12 (simp plainly))
-      (quiet t 13 (simp plainly))
+      (quiet i t 12 (simp plainly))
+      (quiet i t 13 (simp plainly))
       (λ c e. swaps-placed t noHandle (c refl) (e refl))
-      (quiet t 15 (simp plainly))
-      (quiet t 16 refl)
-      (quiet t 17 (simp plainly))
-      (quiet t 18 (simp plainly))
-      (quiet t 19 (simp plainly))
+      (quiet i t 15 (simp plainly))
+      (quiet i t 16 refl)
+      (quiet i t 17 (simp plainly))
+      (quiet i t 18 (simp plainly))
+      (quiet i t 19 (simp plainly))
       (λ c e. swaps-placed t noHandle (c refl) (e refl))
-      (quiet t 21 refl)
-      (quiet t 22 (simp plainly))
+      (quiet i t 21 refl)
+      (quiet i t 22 (simp plainly))
+      (quiet i t 23 (simp plainly))
       (t .stage)
       (omega arith)
       (held .chunk)

@@ -1,11 +1,12 @@
 //! Damage to lent words, and calls on what is left.
+use crate::stacks::{change, scan_down, WAYS};
 use crate::{Call, Chance};
-use model::words::{Words, NONE};
+use model::words::{Words, NONE, TASK_ROWS};
 use model::{CHUNKS, ENTRIES, HANDLES, TASKS};
 
 /// A number that a damaged word may hold, at times one that its table could have.
 pub fn damage(r: &mut Chance, was: u64) -> u64 {
-    const EDGES: [u64; 22] = [
+    const EDGES: [u64; 23] = [
         0,
         1,
         2,
@@ -18,6 +19,7 @@ pub fn damage(r: &mut Chance, was: u64) -> u64 {
         16,
         22,
         23,
+        24,
         31,
         32,
         33,
@@ -52,6 +54,7 @@ pub fn place(r: &mut Chance, w: &Words) -> (usize, usize) {
         let i = r.below(length);
         let row = &w[table][i - i % width..];
         let used = match table {
+            1 if i >= TASK_ROWS => w[1][(i - TASK_ROWS) / ENTRIES * 11] == 23,
             1 | 2 => row[0] != 0,
             3 => row[0] != 0 || row.get(1).is_some_and(|&h| h != NONE),
             _ => true,
@@ -65,7 +68,7 @@ pub fn place(r: &mut Chance, w: &Words) -> (usize, usize) {
 
 /// Words that keep the shape more often than others do: values, keys, arguments, marks, stages, and numbers of handles and chunks.
 pub fn gentle(r: &mut Chance, w: &mut Words) {
-    match r.below(13) {
+    match r.below(15) {
         0 => w[4][r.below(HANDLES)] = r.word(),
         1 => w[5][r.below(HANDLES)] ^= 1,
         2 => {
@@ -92,7 +95,7 @@ pub fn gentle(r: &mut Chance, w: &mut Words) {
         5 => {
             let at = r.below(TASKS) * 11;
             if w[1][at] != 0 {
-                w[1][at] = 1 + r.below(22) as u64;
+                w[1][at] = 1 + r.below(23) as u64;
             }
         }
         6 => {
@@ -120,6 +123,13 @@ pub fn gentle(r: &mut Chance, w: &mut Words) {
             if let Some(mark) = w[5].get_mut(old) {
                 *mark ^= 1;
             }
+        }
+        12 => {
+            scan_down(r, w);
+        }
+        13 => {
+            let (n, way) = (r.below(TASKS), r.below(WAYS));
+            change(r, w, n, way);
         }
         _ => {
             let at = r.below(CHUNKS * ENTRIES) * 3;
@@ -166,7 +176,7 @@ pub fn any_call(r: &mut Chance, w: &Words) -> Call {
         w[3][r.below(w[3].len())]
     };
     match r.below(16) {
-        0 | 1 => Call::Start(r.below(TASKS + 1) as u64, r.below(9) as u64, key, r.word(), r.below(5) as u64),
+        0 | 1 => Call::Start(r.below(TASKS + 1) as u64, r.below(10) as u64, key, r.word(), r.below(5) as u64),
         2 | 3 => Call::Begin(key),
         4..=6 => Call::Rebalance,
         7 if r.once_in(20) => Call::Fresh,

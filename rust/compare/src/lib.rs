@@ -6,6 +6,7 @@ use std::process::{Child, Command, Stdio};
 
 pub mod damage;
 pub mod runs;
+pub mod stacks;
 pub mod states;
 
 mod linked {

@@ -22,7 +22,17 @@ pub fn filling() -> Habit {
 }
 
 pub fn habit(r: &mut Chance) -> Habit {
-    const MIXES: [&[u64]; 7] = [&[1, 2, 3, 4, 5, 6, 7], &[2, 3, 4], &[2, 2, 3, 6], &[6, 5, 1], &[2, 6, 7], &[3, 6], &[5, 6, 4]];
+    const MIXES: [&[u64]; 9] = [
+        &[1, 2, 3, 4, 5, 6, 7, 8],
+        &[2, 3, 4],
+        &[2, 2, 3, 6],
+        &[6, 5, 1],
+        &[2, 6, 7],
+        &[2, 6, 8],
+        &[8, 8, 2, 3, 6],
+        &[3, 6],
+        &[5, 6, 4],
+    ];
     let count = 1 + r.below(TASKS);
     let mut busy: Vec<u64> = (0..TASKS as u64).collect();
     for i in 0..count {
@@ -50,7 +60,7 @@ pub fn odd_call(r: &mut Chance, keys: &[u64]) -> Call {
     match r.below(4) {
         0 => Call::Start(
             r.of(&[0, 7, 8, NONE]),
-            r.of(&[0, 1, 4, 5, 7, 8, NONE]),
+            r.of(&[0, 1, 4, 5, 7, 8, 9, NONE]),
             r.of(keys),
             r.of(keys),
             r.of(&[0, 1, 3, 4, NONE]),
@@ -80,7 +90,7 @@ pub fn next_call(r: &mut Chance, words: &Words, keys: &[u64], habit: &mut Habit,
         k = keys[*n % keys.len()];
         *n += 1;
     }
-    if op == 7 && k > a && !r.once_in(10) {
+    if op >= 7 && k > a && !r.once_in(10) {
         (k, a) = (a, k);
     }
     Call::Start(t, op, k, a, 1 + r.below(3) as u64)

@@ -125,7 +125,7 @@ pub fn busy(mut t: Tables) -> Tables {
     t
 }
 
-/// 31 live chunks and a retired one, every list long, 559 keys present.
+/// 31 live chunks and a retired one, every list long, 559 keys present; the tasks are idle.
 pub fn heavy() -> Tables {
     let mut t = long_lists(30, 559);
     let old = *all_naming(&t).last().unwrap();
@@ -145,7 +145,7 @@ pub fn heavy() -> Tables {
         }
         assert_eq!(t.chunks[c].linked().count(), 32);
     }
-    busy(t)
+    t
 }
 
 fn last_key(t: &Tables, c: usize) -> u64 {
@@ -154,6 +154,79 @@ fn last_key(t: &Tables, c: usize) -> u64 {
 
 fn last_naming(t: &Tables, c: usize) -> u64 {
     t.chunks[c].linked().filter(|(_, e)| e.handle.is_some()).last().unwrap().1.key
+}
+
+/// The live chunk of the longest list, the last of them.
+fn longest_list(t: &Tables) -> usize {
+    let length = |&c: &usize| t.chunks[c].linked().count();
+    chain(t).into_iter().max_by_key(length).unwrap()
+}
+
+/// Task 0 scans down, and its next step fills the stack with the longest list.
+pub fn scanning_down(t: &Tables) -> Tables {
+    let (mut t, c) = (t.clone(), longest_list(t));
+    let upper = last_key(&t, c) + 1;
+    assert_eq!(t.locate(upper), c);
+    assert_eq!(t.start(0, 8, 0, upper, 0), Report::MovedOn);
+    t
+}
+
+/// Seven tasks that scan down, each with a list of 32 on its stack.
+pub fn busy_down(mut t: Tables) -> Tables {
+    let whole = |&c: &usize| t.chunks[c].linked().count() == 32 && t.locate(last_key(&t, c) + 1) == c;
+    let full: Vec<usize> = chain(&t).into_iter().filter(whole).collect();
+    for (n, &c) in (1..TASKS).zip(full.iter().rev().cycle()) {
+        let upper = last_key(&t, c) + 1;
+        assert_eq!([t.start(n as u64, 8, 0, upper, 0), t.step(n as u64)], [Report::MovedOn; 2]);
+        assert_eq!(depth(&t, n), 32);
+    }
+    t
+}
+
+/// How many entries are on task n's stack.
+pub fn depth(t: &Tables, n: usize) -> usize {
+    t.tasks[n].map_or(0, |task| task.stack.entries().len())
+}
+
+/// Three live chunks, the last of a list of 32, with that chunk.
+fn last_full() -> (Tables, usize) {
+    let mut t = with_chunks(3);
+    let c = *chain(&t).last().unwrap();
+    while t.chunks[c].linked().count() < 32 {
+        let key = last_key(&t, c) + 1;
+        operate(&mut t, 2, key, key);
+    }
+    (t, c)
+}
+
+/// Task n scans all keys down, so many steps.
+fn scan_down(t: &mut Tables, n: u64, steps: usize) {
+    assert_eq!(t.start(n, 8, 0, u64::MAX, 0), Report::MovedOn);
+    for _ in 0..steps {
+        assert!(matches!(t.step(n), Report::MovedOn | Report::Pair(..)));
+    }
+}
+
+/// Seven tasks scan down from a list of 32: one holds nothing, one has all 32 on its stack, others fewer or none, and one is at the
+/// chunk below. Then the same with that list's chunk retired, and with some of its keys removed and put anew.
+pub fn scans_down() -> [Tables; 3] {
+    let (mut t, c) = last_full();
+    for (n, steps) in (1..).zip([0, 1, 2, 17, 32, 33, 34]) {
+        scan_down(&mut t, n, steps);
+    }
+    assert_eq!([1, 2, 3, 4, 5, 6].map(|n| depth(&t, n)), [0, 32, 31, 16, 1, 0]);
+    let mut retired = t.clone();
+    let told = [retired.begin(last_key(&t, c)), retired.rebalance(), retired.rebalance(), retired.rebalance()];
+    assert_eq!(told, [Report::MovedOn; 4]);
+    let mut changed = retired.clone();
+    let keys: Vec<u64> = t.chunks[c].linked().map(|(_, e)| e.key).collect();
+    keys.iter().step_by(3).for_each(|&k| {
+        operate(&mut changed, 6, k, 0);
+    });
+    keys.iter().step_by(2).for_each(|&k| {
+        operate(&mut changed, 2, k, 7);
+    });
+    [t, retired, changed]
 }
 
 /// Task 0 at the stage, with the last key of the last chunk or the one after it.
@@ -174,7 +247,8 @@ pub fn at_stage(t: &Tables, stage: Stage) -> Tables {
             (5, key)
         }
         16..=21 => (6, key),
-        _ => (7, key),
+        22 => (7, key),
+        _ => return scanning_down(&t),
     };
     t.start(0, op, key, u64::MAX, 1);
     while working(&t, 0) != n {
@@ -194,7 +268,14 @@ pub fn case(name: &str, tables: Tables, call: Call) -> Case {
     }
 }
 
-const STAGES: [&str; 22] = [
+const ONE_OFF: &str = "23 scan down, one off";
+
+/// How many entries the measured fill put on the stack.
+pub fn filled(cases: &[Case]) -> usize {
+    cases.iter().find(|c| c.name == ONE_OFF).map_or(0, |c| depth(&c.tables, 0))
+}
+
+pub const STAGES: [&str; 23] = [
     "1 locate",
     "2 find",
     "3 read",
@@ -217,6 +298,7 @@ const STAGES: [&str; 22] = [
     "20 swap to none",
     "21 unpublish",
     "22 scan",
+    "23 scan down, a fill",
 ];
 
 /// Every stage of a task on one state, and of the rebalance on another that has two unused chunks.
@@ -230,6 +312,10 @@ pub fn all_stages(steps: &Tables, rebalances: &Tables) -> Vec<Case> {
     for (stage, name) in Stage::ALL.into_iter().zip(STAGES) {
         cases.push(case(name, at_stage(steps, stage), Call::Step(0)));
     }
+    let mut filled = scanning_down(steps);
+    assert_eq!(filled.step(0), Report::MovedOn);
+    assert!(depth(&filled, 0) > 0);
+    cases.push(case(ONE_OFF, filled, Call::Step(0)));
     let mut t = rebalances.clone();
     let key = last_key(&t, chain(&t)[chain(&t).len() - 1]);
     cases.push(case("begin", t.clone(), Call::Begin(key)));

@@ -28,11 +28,15 @@ impl Task {
         if operation.uses_function() && Function::from_number(function).is_none() {
             return Err(refusal::NO_OPERATION);
         }
-        if operation == Operation::Scan && key > argument {
+        if operation.is_scan() && key > argument {
             return Err(refusal::SCAN_BACKWARDS);
         }
         Ok(Task {
-            stage: if operation == Operation::Scan { Stage::Scan } else { Stage::Locate },
+            stage: match operation {
+                Operation::Scan => Stage::Scan,
+                Operation::ScanDown => Stage::ScanDown,
+                _ => Stage::Locate,
+            },
             operation,
             function: if operation.uses_function() { function } else { 0 },
             key,
@@ -43,6 +47,7 @@ impl Task {
             new: None,
             published: false,
             swapped: false,
+            stack: Stack::default(),
         })
     }
 
@@ -56,6 +61,7 @@ impl Task {
             new: None,
             published: false,
             swapped: false,
+            stack: Stack::default(),
             ..self
         }
     }

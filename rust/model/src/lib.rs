@@ -1,4 +1,5 @@
-//! A second implementation of document 01, in plain Rust with typed structs, written from that document and the header alone.
+//! A second implementation of document 01 and of request E1, in plain Rust with typed structs, written from those documents and
+//! the header alone.
 
 mod calls;
 mod rebalance;
@@ -59,6 +60,7 @@ pub enum Operation {
     Compute,
     Remove,
     Scan,
+    ScanDown,
 }
 
 #[derive(Clone, Copy, PartialEq, Eq, Debug)]
@@ -92,6 +94,14 @@ pub enum Stage {
     SwapRemoval,
     UnpublishRemoval,
     Scan,
+    ScanDown,
+}
+
+/// Entries of a held chunk, the top last; 0 past the top.
+#[derive(Clone, Copy, PartialEq, Eq, Debug, Default)]
+pub struct Stack {
+    entries: [EntryNo; ENTRIES],
+    depth: usize,
 }
 
 /// A task at work.
@@ -100,7 +110,7 @@ pub struct Task {
     pub stage: Stage,
     pub operation: Operation,
     pub function: u64,
-    /// a scan's cursor
+    /// an upward scan's cursor, a downward one's lower end
     pub key: u64,
     /// a scan's upper end
     pub argument: u64,
@@ -110,6 +120,7 @@ pub struct Task {
     pub new: Option<HandleNo>,
     pub published: bool,
     pub swapped: bool,
+    pub stack: Stack,
 }
 
 /// The rebalance: idle, or the stage that its next call does.
@@ -191,7 +202,7 @@ impl Status {
 }
 
 impl Operation {
-    pub const ALL: [Operation; 7] = [
+    pub const ALL: [Operation; 8] = [
         Operation::Get,
         Operation::Put,
         Operation::PutIfAbsent,
@@ -199,9 +210,10 @@ impl Operation {
         Operation::Compute,
         Operation::Remove,
         Operation::Scan,
+        Operation::ScanDown,
     ];
 
-    /// Its number, 1 to 7.
+    /// Its number, 1 to 8.
     pub fn number(self) -> u64 {
         self as u64 + 1
     }
@@ -214,6 +226,11 @@ impl Operation {
     /// Upsert and compute apply a function.
     pub fn uses_function(self) -> bool {
         matches!(self, Operation::Upsert | Operation::Compute)
+    }
+
+    /// Both scans go from a lower end to an upper.
+    pub fn is_scan(self) -> bool {
+        matches!(self, Operation::Scan | Operation::ScanDown)
     }
 
     /// All but get and remove have a value, an amount or an upper end.
@@ -244,7 +261,7 @@ impl Function {
 }
 
 impl Stage {
-    pub const ALL: [Stage; 22] = [
+    pub const ALL: [Stage; 23] = [
         Stage::Locate,
         Stage::Find,
         Stage::Read,
@@ -267,9 +284,10 @@ impl Stage {
         Stage::SwapRemoval,
         Stage::UnpublishRemoval,
         Stage::Scan,
+        Stage::ScanDown,
     ];
 
-    /// Its number in the stage list, 1 to 22.
+    /// Its number in the stage list, 1 to 23.
     pub fn number(self) -> u64 {
         self as u64 + 1
     }
@@ -278,6 +296,39 @@ impl Stage {
     pub fn from_number(number: u64) -> Option<Stage> {
         let index = usize::try_from(number.checked_sub(1)?).ok()?;
         Stage::ALL.get(index).copied()
+    }
+}
+
+impl Stack {
+    /// What is on it, the top last.
+    pub fn entries(&self) -> &[EntryNo] {
+        self.entries.get(..self.depth).unwrap_or_default()
+    }
+
+    pub fn is_empty(&self) -> bool {
+        self.depth == 0
+    }
+
+    /// Puts an entry on top; one more than a chunk has finds no room.
+    pub fn put_on(&mut self, entry: EntryNo) {
+        if let Some(place) = self.entries.get_mut(self.depth) {
+            *place = entry;
+            self.depth += 1;
+        }
+    }
+
+    /// Takes the top off.
+    pub fn take_off(&mut self) -> Option<EntryNo> {
+        self.depth = self.depth.checked_sub(1)?;
+        self.entries.get_mut(self.depth).map(std::mem::take)
+    }
+}
+
+impl FromIterator<EntryNo> for Stack {
+    fn from_iter<I: IntoIterator<Item = EntryNo>>(entries: I) -> Stack {
+        let mut stack = Stack::default();
+        entries.into_iter().for_each(|entry| stack.put_on(entry));
+        stack
     }
 }
 

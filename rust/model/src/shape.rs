@@ -31,6 +31,7 @@ struct Holds {
     swapped: Hold,
     /// The old handle is a deleted one.
     deleted: bool,
+    stack: Hold,
 }
 
 const NOTHING: Holds = Holds {
@@ -41,6 +42,13 @@ const NOTHING: Holds = Holds {
     published: No,
     swapped: No,
     deleted: false,
+    stack: No,
+};
+/// A stack only with its chunk.
+const STACK: Holds = Holds {
+    chunk: Perhaps,
+    stack: Perhaps,
+    ..NOTHING
 };
 const CHUNK: Holds = Holds { chunk: Must, ..NOTHING };
 const ENTRY: Holds = Holds { entry: Must, ..CHUNK };
@@ -74,6 +82,7 @@ impl Stage {
     fn holds(self) -> Holds {
         match self {
             Stage::Locate | Stage::Scan => NOTHING,
+            Stage::ScanDown => STACK,
             Stage::Find | Stage::TakeEntry => CHUNK,
             Stage::Read | Stage::Link => ENTRY,
             Stage::Check | Stage::Apply | Stage::PublishAbsence => OLD,
@@ -100,6 +109,7 @@ impl Stage {
             Operation::Compute => matches!(number, 1..=5 | 13..=15),
             Operation::Remove => matches!(number, 1..=5 | 13..=21),
             Operation::Scan => number == 22,
+            Operation::ScanDown => number == 23,
         }
     }
 }
@@ -114,6 +124,7 @@ impl Task {
             && holds.new.fits(self.new.is_some())
             && holds.published.fits(self.published)
             && holds.swapped.fits(self.swapped)
+            && holds.stack.fits(!self.stack.is_empty())
     }
 
     /// The stage fits the operation, and the function is one where one is used.
@@ -259,6 +270,7 @@ impl Tables {
         task.holds_fit()
             && task.asks_fit()
             && self.held_place_fits(task, linked)
+            && self.stack_fits(task, linked)
             && lies(task.old, HANDLES)
             && lies(task.new, HANDLES)
             && self.held_mark_fits(task)
@@ -268,6 +280,17 @@ impl Tables {
     fn held_mark_fits(&self, task: &Task) -> bool {
         let is_deleted = |old: HandleNo| self.handles.get(old).is_some_and(|handle| handle.deleted);
         !task.stage.holds().deleted || task.old.is_some_and(is_deleted)
+    }
+
+    /// What is on a stack is linked in the held chunk, keys strictly rising to the top.
+    fn stack_fits(&self, task: &Task, linked: &[u32; CHUNKS]) -> bool {
+        let Some(number) = task.chunk else { return task.stack.is_empty() };
+        let (Some(chunk), Some(bits)) = (self.chunks.get(number), linked.get(number)) else {
+            return false;
+        };
+        let is_linked = |&entry: &EntryNo| entry < ENTRIES && bits >> entry & 1 == 1;
+        let entries = task.stack.entries();
+        entries.iter().all(is_linked) && entries.windows(2).all(|pair| chunk.entries[pair[0]].key < chunk.entries[pair[1]].key)
     }
 
     /// A held chunk is in use; a held entry is used, has the task's key, and is linked except at 7.

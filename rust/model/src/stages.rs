@@ -67,6 +67,7 @@ impl Tables {
                 ..task
             }),
             (Stage::Scan, _, _) => self.scan(task),
+            (Stage::ScanDown, _, _) => self.scan_down(task),
             (Stage::Find, Some(chunk), _) => self.find(task, chunk),
             (Stage::FindAgain, Some(chunk), _) => self.find_again(task, chunk),
             (Stage::TakeEntry, Some(chunk), _) => self.take_entry(task, chunk),
@@ -294,6 +295,44 @@ impl Tables {
             }),
             (None, None) => Finished(Answer::Done),
         }
+    }
+
+    /// Stage 23: one entry comes off the stack; an empty one is filled, or the scan is at its end.
+    fn scan_down(&self, mut task: Task) -> Outcome {
+        match (task.chunk, task.stack.take_off()) {
+            (Some(chunk), Some(entry)) => self.give(task, chunk, entry),
+            (None, Some(_)) => Outcome::NoShape,
+            (None, None) => self.fill(task, self.locate(task.argument), task.argument),
+            (Some(chunk), None) => {
+                let min = self.chunks[chunk].min;
+                if min <= task.key {
+                    return Finished(Answer::Done);
+                }
+                self.fill(task, self.locate(min - 1), min.min(task.argument))
+            }
+        }
+    }
+
+    /// The entry that was on top: a pair if it names an undeleted handle.
+    fn give(&self, task: Task, chunk: ChunkNo, entry: EntryNo) -> Outcome {
+        let Entry { key, handle, .. } = self.chunks[chunk].entries[entry];
+        match handle.map(|handle| self.handles[handle]) {
+            Some(Handle { value, deleted: false }) => Outcome::Pair(task, key, value),
+            _ => MovedOn(task),
+        }
+    }
+
+    /// The chunk is held, and its linked entries from the lower end on and below a key are on the stack.
+    fn fill(&self, task: Task, chunk: ChunkNo, below: u64) -> Outcome {
+        let in_range = self.chunks[chunk]
+            .linked()
+            .skip_while(|(_, entry)| entry.key < task.key)
+            .take_while(|(_, entry)| entry.key < below);
+        MovedOn(Task {
+            chunk: Some(chunk),
+            stack: in_range.map(|(number, _)| number).collect(),
+            ..task
+        })
     }
 }
 

@@ -2,8 +2,10 @@
 use crate::*;
 
 pub const NONE: u64 = u64::MAX;
+/// Every task's row; its stack stands after all of them.
+pub const TASK_ROWS: usize = TASKS * 11;
 /// Directory, tasks, chunks, entries, values, marks.
-pub const LENGTHS: [usize; 6] = [5, TASKS * 11, CHUNKS * 6, CHUNKS * ENTRIES * 3, HANDLES, HANDLES];
+pub const LENGTHS: [usize; 6] = [5, TASK_ROWS + TASKS * ENTRIES, CHUNKS * 6, CHUNKS * ENTRIES * 3, HANDLES, HANDLES];
 
 pub type Words = [Vec<u64>; 6];
 
@@ -81,11 +83,32 @@ impl Rebalance {
     }
 }
 
+impl Stack {
+    /// The stack of its words: the first none ends it, and there is nothing past that.
+    fn from_words(words: [u64; ENTRIES]) -> Option<Stack> {
+        let depth = words.iter().position(|&word| word == NONE).unwrap_or(ENTRIES);
+        let (on, past) = words.split_at(depth);
+        if past.iter().any(|&word| word != NONE) {
+            return None;
+        }
+        on.iter().map(|&word| number(word)).collect()
+    }
+
+    fn to_words(self) -> [u64; ENTRIES] {
+        let mut words = [NONE; ENTRIES];
+        for (word, &entry) in words.iter_mut().zip(self.entries()) {
+            *word = entry as u64;
+        }
+        words
+    }
+}
+
 impl Task {
-    /// The task of a row: the inner none where it is idle, the outer where no task has the row.
-    fn from_words(row: [u64; 11]) -> Option<Option<Task>> {
+    /// The task of a row and a stack: the inner none where it is idle, the outer where no task has them.
+    fn from_words(row: [u64; 11], stack: [u64; ENTRIES]) -> Option<Option<Task>> {
+        let stack = Stack::from_words(stack)?;
         if row == IDLE {
-            return Some(None);
+            return stack.is_empty().then_some(None);
         }
         let [stage, operation, function, key, argument, chunk, entry, old, new, published, swapped] = row;
         Some(Some(Task {
@@ -100,6 +123,7 @@ impl Task {
             new: number_or_none(new)?,
             published: mark(published)?,
             swapped: mark(swapped)?,
+            stack,
         }))
     }
 
@@ -171,8 +195,9 @@ impl Tables {
             rebalance: Rebalance::from_words([stage, old, new, second])?,
             ..Tables::fresh()
         };
-        for (task, row) in tables.tasks.iter_mut().zip(rows(tasks)) {
-            *task = Task::from_words(row)?;
+        let (task_rows, stacks) = tasks.split_at(TASK_ROWS);
+        for (task, (row, stack)) in tables.tasks.iter_mut().zip(rows(task_rows).zip(rows(stacks))) {
+            *task = Task::from_words(row, stack)?;
         }
         for (chunk, row) in tables.chunks.iter_mut().zip(rows(chunks)) {
             *chunk = Chunk::from_words(row)?;
@@ -194,7 +219,12 @@ impl Tables {
         let [directory, tasks, chunks, entries, values, marks] = w;
         let [stage, old, new, second] = self.rebalance.to_words();
         write(directory, std::iter::once([self.first as u64, stage, old, new, second]));
-        write(tasks, self.tasks.iter().map(|task| task.map_or(IDLE, Task::to_words)));
+        let (task_rows, stacks) = tasks.split_at_mut(TASK_ROWS);
+        write(task_rows, self.tasks.iter().map(|task| task.map_or(IDLE, Task::to_words)));
+        write(
+            stacks,
+            self.tasks.iter().map(|task| task.map_or_else(Stack::default, |task| task.stack).to_words()),
+        );
         write(chunks, self.chunks.iter().map(|chunk| chunk.to_words()));
         let slots = self.chunks.iter().flat_map(|chunk| &chunk.entries);
         write(entries, slots.map(|entry| [entry.key, word(entry.handle), word(entry.next)]));

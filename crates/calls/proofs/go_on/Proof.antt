@@ -1,5 +1,6 @@
 use Prim.Native.Nat.{_-_}
 use mathlib.Core.Path.{refl, sym, ap, _∙_}
+use native.Mathlib.Omega.{arith}
 use borrow.Author.Tests.{not-true, not-false}
 use Rattle.rules.specs.Calls.{does}
 use Rattle.rows.specs.Rows.{tables}
@@ -30,7 +31,7 @@ returns : tie.Need-returns
 returns c = let the-args = c .before .before .before .before .before .before .before .before .before .before .before .args in let the-is-ready = c .before .is-ready in refused (the-args .z) (Call.rebalance) (lending (the-args .directory .now) (the-args .tasks .now) (the-args .chunks .now) (the-args .entries .now) (the-args .values .now) (the-args .marks .now)) (sym (the-is-ready .ensures) ∙ not-true (the-is-ready .result) (c .if1 .taken))
 
 rebalance-requires : tie.Need-rebalance-requires
-rebalance-requires c κs = let the-args = c .before .before .before .before .before .before .before .before .before .before .before .before .before .before .args in let the-if1 = c .before .before .before .if1 in let the-is-ready = c .before .before .before .before .is-ready in let l = (lent-lengths (the-args .z) (lending (the-args .directory .now) (the-args .tasks .now) (the-args .chunks .now) (the-args .entries .now) (the-args .values .now) (the-args .marks .now)) (and-left (lent (the-args .z) (lending (the-args .directory .now) (the-args .tasks .now) (the-args .chunks .now) (the-args .entries .now) (the-args .values .now) (the-args .marks .now))) (shape (the-args .z) (tablesOf (the-args .z) (lending (the-args .directory .now) (the-args .tasks .now) (the-args .chunks .now) (the-args .entries .now) (the-args .values .now) (the-args .marks .now)))) (sym (the-is-ready .ensures) ∙ not-false (the-is-ready .result) (the-if1 .left)))) in (record { directory = l .directory; tasks = l .tasks; chunks = l .chunks; entries = l .entries }, shape-ready (the-args .z) (tablesOf (the-args .z) (lending (the-args .directory .now) (the-args .tasks .now) (the-args .chunks .now) (the-args .entries .now) (the-args .values .now) (the-args .marks .now))) (and-right (lent (the-args .z) (lending (the-args .directory .now) (the-args .tasks .now) (the-args .chunks .now) (the-args .entries .now) (the-args .values .now) (the-args .marks .now))) (shape (the-args .z) (tablesOf (the-args .z) (lending (the-args .directory .now) (the-args .tasks .now) (the-args .chunks .now) (the-args .entries .now) (the-args .values .now) (the-args .marks .now)))) (sym (the-is-ready .ensures) ∙ not-false (the-is-ready .result) (the-if1 .left))))
+rebalance-requires c κs = let the-args = c .before .before .before .before .before .before .before .before .before .before .before .before .before .before .args in let the-if1 = c .before .before .before .if1 in let the-is-ready = c .before .before .before .before .is-ready in let l = (lent-lengths (the-args .z) (lending (the-args .directory .now) (the-args .tasks .now) (the-args .chunks .now) (the-args .entries .now) (the-args .values .now) (the-args .marks .now)) (and-left (lent (the-args .z) (lending (the-args .directory .now) (the-args .tasks .now) (the-args .chunks .now) (the-args .entries .now) (the-args .values .now) (the-args .marks .now))) (shape (the-args .z) (tablesOf (the-args .z) (lending (the-args .directory .now) (the-args .tasks .now) (the-args .chunks .now) (the-args .entries .now) (the-args .values .now) (the-args .marks .now)))) (sym (the-is-ready .ensures) ∙ not-false (the-is-ready .result) (the-if1 .left)))) in (record { directory = l .directory; tasks = omega (arith, l .tasks); chunks = l .chunks; entries = l .entries }, shape-ready (the-args .z) (tablesOf (the-args .z) (lending (the-args .directory .now) (the-args .tasks .now) (the-args .chunks .now) (the-args .entries .now) (the-args .values .now) (the-args .marks .now))) (and-right (lent (the-args .z) (lending (the-args .directory .now) (the-args .tasks .now) (the-args .chunks .now) (the-args .entries .now) (the-args .values .now) (the-args .marks .now))) (shape (the-args .z) (tablesOf (the-args .z) (lending (the-args .directory .now) (the-args .tasks .now) (the-args .chunks .now) (the-args .entries .now) (the-args .values .now) (the-args .marks .now)))) (sym (the-is-ready .ensures) ∙ not-false (the-is-ready .result) (the-if1 .left))))
 
 same-length-4 : tie.Need-same-length-4
 same-length-4 c = search needs

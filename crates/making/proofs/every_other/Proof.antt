@@ -8,10 +8,10 @@ use Rattle.making.proofs.every_other.Statement.{statement}
 use Rattle.making.proofs.every_other.Tie as tie
 
 abbrev Inv-loop : tie.InvT-loop
-Inv-loop from words₀ i₀ words i = (everyOther i words ≡ everyOther from words₀) × (length words ≡ length words₀)
+Inv-loop v from words₀ i₀ words i = (everyOther v i words ≡ everyOther v from words₀) × (length words ≡ length words₀)
 
 abbrev μ-loop : tie.MeasureT-loop
-μ-loop from words₀ i₀ words i = length words - i
+μ-loop v from words₀ i₀ words i = length words - i
 
 loop-holds : tie.Need-loop-holds Inv-loop μ-loop
 loop-holds c = (refl, refl)
@@ -26,16 +26,19 @@ add-i : tie.Need-add-i Inv-loop μ-loop
 add-i c = omega arith
 
 loop-less : tie.Need-loop-less Inv-loop μ-loop
-loop-less c = omega (arith, length-set (c .before .loop .words) (c .before .loop .i) 0)
+loop-less c = omega (arith, length-set (c .before .loop .words) (c .before .loop .i) (c .before .before .args .v))
 
 loop-again : tie.Need-loop-again Inv-loop μ-loop
-loop-again c = let the-loop = c .before .loop in (sym (other-next (the-loop .i) (the-loop .words)) ∙ the-loop .inv .0, length-set (the-loop .words) (the-loop .i) 0 ∙ the-loop .inv .1)
+loop-again c =
+    let the-loop = c .before .loop in
+    let v = c .before .before .args .v in
+    (sym (other-next v (the-loop .i) (the-loop .words)) ∙ the-loop .inv .0, length-set (the-loop .words) (the-loop .i) v ∙ the-loop .inv .1)
 
 same-length : tie.Need-same-length Inv-loop μ-loop
 same-length c = c .before .loop .inv .1
 
 returns : tie.Need-returns Inv-loop μ-loop
-returns c = let the-loop = c .before .loop in sym (other-none (the-loop .i) (the-loop .words) (omega arith)) ∙ the-loop .inv .0
+returns c = let the-loop = c .before .loop in sym (other-none (c .before .before .args .v) (the-loop .i) (the-loop .words) (omega arith)) ∙ the-loop .inv .0
 
 pub every-other-spec : {M : Type 1} → statement M
 every-other-spec =

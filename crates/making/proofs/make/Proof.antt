@@ -1,5 +1,6 @@
 use Prim.Native.Nat.{ℕ}
 use mathlib.Core.Path.{ap, _∙_}
+use native.Mathlib.Nat.{sub-zero}
 use native.Mathlib.Omega.{arith}
 use lib.ListN.{replicate}
 use Rattle.making.proofs.Filling.{made}
@@ -13,8 +14,8 @@ fresh-requires c κs = search needs
 put-directory-row-requires : tie.Need-put-directory-row-requires
 put-directory-row-requires c κs = search needs
 
-idle-tasks-requires : tie.Need-idle-tasks-requires
-idle-tasks-requires c κs = search needs
+clear-tasks-requires : tie.Need-clear-tasks-requires
+clear-tasks-requires c κs = search needs
 
 empty-chunks-requires : tie.Need-empty-chunks-requires
 empty-chunks-requires c κs = search needs
@@ -31,14 +32,14 @@ mul-empty-entries c = omega (arith, c .before .before .before .before .before .b
 empty-entries-requires : tie.Need-empty-entries-requires
 empty-entries-requires c κs = omega (arith, c .before .before .before .before .before .before .before .before .before .before .before .before .before .before .before .before .before .before .before .before .before .before .before .before .before .before .pre .entries)
 
-zeros-requires : tie.Need-zeros-requires
-zeros-requires c κs = search needs
+fill-requires : tie.Need-fill-requires
+fill-requires c κs = search needs
 
-zeros-requires-2 : tie.Need-zeros-requires-2
-zeros-requires-2 c κs = search needs
+fill-requires-2 : tie.Need-fill-requires-2
+fill-requires-2 c κs = search needs
 
 same-length : tie.Need-same-length
-same-length c = search needs
+same-length c = c .before .before .before .before .before .before .before .before .before .before .before .before .before .before .before .before .before .before .before .before .before .before .before .before .before .before .before .before .put-directory-row .kept .0
 
 same-length-2 : tie.Need-same-length-2
 same-length-2 c = search needs
@@ -56,7 +57,7 @@ same-length-6 : tie.Need-same-length-6
 same-length-6 c = search needs
 
 returns : tie.Need-returns
-returns c = let the-empty-entries = c .before .before .before .before .before .before .before .before .before .before .empty-entries in let the-idle-tasks = c .before .before .before .before .before .before .before .before .before .before .before .before .before .before .before .before .before .before .before .before .before .before .before .before .idle-tasks in let the-pre = c .before .before .before .before .before .before .before .before .before .before .before .before .before .before .before .before .before .before .before .before .before .before .before .before .before .before .before .before .before .before .before .before .before .before .before .before .before .pre in let the-put-chunk = c .before .before .before .before .before .before .before .before .before .before .before .before .before .before .before .put-chunk in let the-put-directory-row = c .before .before .before .before .before .before .before .before .before .before .before .before .before .before .before .before .before .before .before .before .before .before .before .before .before .before .before .before .put-directory-row in let the-zeros = c .before .before .before .before .before .before .zeros in let the-zeros2 = c .before .before .zeros2 in made (c .before .before .before .before .before .before .before .before .before .before .before .before .before .before .before .before .before .before .before .before .before .before .before .before .before .before .before .before .before .before .before .before .before .before .before .before .before .args .z) (the-put-directory-row .last .0) (the-idle-tasks .last .1 .0) (the-put-chunk .last .1 .0) (the-empty-entries .last .1 .0) (the-zeros .last .0) (the-zeros2 .last .0) (the-put-directory-row .ensures ∙ c .before .before .before .before .before .before .before .before .before .before .before .before .before .before .before .before .before .before .before .before .before .before .before .before .before .before .before .before .before .fresh .ensures) (the-idle-tasks .ensures) (the-put-chunk .ensures ∙ rw (c .before .before .before .before .before .before .before .before .before .before .before .before .before .before .before .before .before .before .before .before .empty-chunks .ensures, c .before .before .before .before .before .before .before .before .before .before .before .before .before .before .before .before .before .empty-chunk .ensures)) (the-empty-entries .ensures) (the-zeros .ensures ∙ ap (λ (n : ℕ). replicate n 0) (the-pre .values)) (the-zeros2 .ensures ∙ ap (λ (n : ℕ). replicate n 0) (the-pre .marks))
+returns c = let the-empty-entries = c .before .before .before .before .before .before .before .before .before .before .empty-entries in let the-clear-tasks = c .before .before .before .before .before .before .before .before .before .before .before .before .before .before .before .before .before .before .before .before .before .before .before .before .clear-tasks in let the-pre = c .before .before .before .before .before .before .before .before .before .before .before .before .before .before .before .before .before .before .before .before .before .before .before .before .before .before .before .before .before .before .before .before .before .before .before .before .before .pre in let the-put-chunk = c .before .before .before .before .before .before .before .before .before .before .before .before .before .before .before .put-chunk in let the-put-directory-row = c .before .before .before .before .before .before .before .before .before .before .before .before .before .before .before .before .before .before .before .before .before .before .before .before .before .before .before .before .put-directory-row in let the-fill = c .before .before .before .before .before .before .fill in let the-fill2 = c .before .before .fill2 in made (c .before .before .before .before .before .before .before .before .before .before .before .before .before .before .before .before .before .before .before .before .before .before .before .before .before .before .before .before .before .before .before .before .before .before .before .before .before .args .z) (the-put-directory-row .last .0) (the-clear-tasks .last .1 .0) (the-put-chunk .last .1 .0) (the-empty-entries .last .1 .0) (the-fill .last .1 .1 .0) (the-fill2 .last .1 .1 .0) (the-put-directory-row .ensures ∙ c .before .before .before .before .before .before .before .before .before .before .before .before .before .before .before .before .before .before .before .before .before .before .before .before .before .before .before .before .before .fresh .ensures) (the-clear-tasks .ensures .0) (the-clear-tasks .ensures .1) (the-put-chunk .ensures ∙ rw (c .before .before .before .before .before .before .before .before .before .before .before .before .before .before .before .before .before .before .before .before .empty-chunks .ensures, c .before .before .before .before .before .before .before .before .before .before .before .before .before .before .before .before .before .empty-chunk .ensures)) (the-empty-entries .ensures) (the-fill .ensures ∙ ap (λ (n : ℕ). replicate n 0) (sub-zero _ ∙ the-pre .values)) (the-fill2 .ensures ∙ ap (λ (n : ℕ). replicate n 0) (sub-zero _ ∙ the-pre .marks))
 
 pub make-spec : {M : Type 1} → statement M
 make-spec =
@@ -64,14 +65,14 @@ make-spec =
     (tie.spec
     fresh-requires
     put-directory-row-requires
-    idle-tasks-requires
+    clear-tasks-requires
     empty-chunks-requires
     empty-chunk-requires
     put-chunk-requires
     mul-empty-entries
     empty-entries-requires
-    zeros-requires
-    zeros-requires-2
+    fill-requires
+    fill-requires-2
     same-length
     same-length-2
     same-length-3

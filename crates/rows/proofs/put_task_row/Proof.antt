@@ -111,7 +111,7 @@ same-length : tie.Need-same-length
 same-length c = simp length-set
 
 returns : tie.Need-returns
-returns c n = simp (towards-suc, nine, ten) (task-put (c .args .words .now) (c .args .i) (c .args .x) (c .pre) n)
+returns c = simp (towards-suc, nine, ten) (task-put (c .args .words .now) (c .args .i) (c .args .x) (c .pre))
 
 pub put-task-row-spec : {M : Type 1} → statement M
 put-task-row-spec =

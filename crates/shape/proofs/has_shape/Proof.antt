@@ -35,11 +35,17 @@ tasks-right-requires c κs = search needs
 returns-5 : tie.Need-returns-5
 returns-5 c = sym (shape-is _ _ _ _ _ _ _ (c .before .before .before .before .before .before .before .before .before .before .before .before .before .before .before .before .before .pre) _ (c .before .before .before .before .before .before .before .before .before .before .directory-row .ensures) ∙ rw (sym (c .before .before .before .before .before .before .before .before .before .marks-right .ensures) ∙ not-false _ (c .before .before .before .before .before .before .before .before .if1 .left), lt-ltb _ _ (c .before .before .before .before .before .before .if2 .left), sym (c .before .before .before .before .before .chunks-right .ensures) ∙ not-false _ (c .before .before .before .before .if3 .left), sym (c .before .before .before .chain-right .ensures) ∙ not-false _ (c .before .before .if4 .left), sym (c .before .tasks-right .ensures) ∙ not-true _ (c .if5 .taken)))
 
+stacks-right-requires : tie.Need-stacks-right-requires
+stacks-right-requires c κs = let the-pre = c .before .before .before .before .before .before .before .before .before .before .before .before .before .before .before .before .before .pre in record { tasks = the-pre .tasks; chunks = the-pre .chunks; entries = the-pre .entries; lists = sym (c .before .before .before .before .before .chunks-right .ensures) ∙ not-false _ (c .before .before .before .before .if3 .left) }
+
+returns-6 : tie.Need-returns-6
+returns-6 c = sym (shape-is _ _ _ _ _ _ _ (c .before .before .before .before .before .before .before .before .before .before .before .before .before .before .before .before .before .before .before .pre) _ (c .before .before .before .before .before .before .before .before .before .before .before .before .directory-row .ensures) ∙ rw (sym (c .before .before .before .before .before .before .before .before .before .before .before .marks-right .ensures) ∙ not-false _ (c .before .before .before .before .before .before .before .before .before .before .if1 .left), lt-ltb _ _ (c .before .before .before .before .before .before .before .before .if2 .left), sym (c .before .before .before .before .before .before .before .chunks-right .ensures) ∙ not-false _ (c .before .before .before .before .before .before .if3 .left), sym (c .before .before .before .before .before .chain-right .ensures) ∙ not-false _ (c .before .before .before .before .if4 .left), sym (c .before .before .before .tasks-right .ensures) ∙ not-false _ (c .before .before .if5 .left), sym (c .before .stacks-right .ensures) ∙ not-true _ (c .if6 .taken)))
+
 rebalance-fits-requires : tie.Need-rebalance-fits-requires
 rebalance-fits-requires c κs = search needs
 
-returns-6 : tie.Need-returns-6
-returns-6 c = c .rebalance-fits .ensures ∙ sym (shape-is _ _ _ _ _ _ _ (c .before .before .before .before .before .before .before .before .before .before .before .before .before .before .before .before .before .before .pre) _ (c .before .before .before .before .before .before .before .before .before .before .before .directory-row .ensures) ∙ rw (sym (c .before .before .before .before .before .before .before .before .before .before .marks-right .ensures) ∙ not-false _ (c .before .before .before .before .before .before .before .before .before .if1 .left), lt-ltb _ _ (c .before .before .before .before .before .before .before .if2 .left), sym (c .before .before .before .before .before .before .chunks-right .ensures) ∙ not-false _ (c .before .before .before .before .before .if3 .left), sym (c .before .before .before .before .chain-right .ensures) ∙ not-false _ (c .before .before .before .if4 .left), sym (c .before .before .tasks-right .ensures) ∙ not-false _ (c .before .if5 .left)))
+returns-7 : tie.Need-returns-7
+returns-7 c = c .rebalance-fits .ensures ∙ sym (shape-is _ _ _ _ _ _ _ (c .before .before .before .before .before .before .before .before .before .before .before .before .before .before .before .before .before .before .before .before .pre) _ (c .before .before .before .before .before .before .before .before .before .before .before .before .before .directory-row .ensures) ∙ rw (sym (c .before .before .before .before .before .before .before .before .before .before .before .before .marks-right .ensures) ∙ not-false _ (c .before .before .before .before .before .before .before .before .before .before .before .if1 .left), lt-ltb _ _ (c .before .before .before .before .before .before .before .before .before .if2 .left), sym (c .before .before .before .before .before .before .before .before .chunks-right .ensures) ∙ not-false _ (c .before .before .before .before .before .before .before .if3 .left), sym (c .before .before .before .before .before .before .chain-right .ensures) ∙ not-false _ (c .before .before .before .before .before .if4 .left), sym (c .before .before .before .before .tasks-right .ensures) ∙ not-false _ (c .before .before .before .if5 .left), sym (c .before .before .stacks-right .ensures) ∙ not-false _ (c .before .if6 .left)))
 
 pub has-shape-spec : {M : Type 1} → statement M
 has-shape-spec =
@@ -55,5 +61,7 @@ has-shape-spec =
     returns-4
     tasks-right-requires
     returns-5
+    stacks-right-requires
+    returns-6
     rebalance-fits-requires
-    returns-6)
+    returns-7)

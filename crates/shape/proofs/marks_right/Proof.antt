@@ -7,7 +7,7 @@ use lib.Dec.{leb}
 use lib.ListN.{length, getD}
 use Rattle.rules.specs.Words.{pick}
 use Rattle.rules.specs.Shape.{each}
-use Rattle.shape.proofs.Rows.{rest, each-start, each-gathers, each-gathered, list-rows}
+use Rattle.listed.proofs.Rows.{rest, each-start, each-gathers, each-gathered, list-rows}
 use Rattle.shape.proofs.marks_right.Statement.{statement}
 use Rattle.shape.proofs.marks_right.Tie as tie
 

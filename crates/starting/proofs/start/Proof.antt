@@ -48,7 +48,7 @@ same-length-4 : tie.Need-same-length-4
 same-length-4 c = search needs
 
 returns-5 : tie.Need-returns-5
-returns-5 c = let the-args = c .before .before .before .before .before .before .before .before .before .before .before .before .before .before .before .before .args in let the-backwards = c .before .before .before .before .before .before .backwards in let the-if1 = c .before .before .before .before .before .before .before .before .before .before .before .before .before .if1 in let the-if2 = c .before .before .before .before .before .before .before .before .before .if2 in let the-if3 = c .before .before .before .before .before .before .before .if3 in let the-if4 = c .before .before .before .before .before .if4 in let the-task-row = c .before .before .before .before .before .before .before .before .before .before .before .task-row in let the-unknown = c .before .before .before .before .before .before .before .before .unknown in λ d cs es vs ms. let q : the-task-row .result ≡ getD (taskRows (the-args .z .tasks) (the-args .tasks .now)) (the-args .n) idleTask = the-task-row .ensures ∙ sym (row-read (taskOf (the-args .tasks .now)) _ _ idleTask (the-if1 .left)) in (rw (lt-leb _ _ (the-if1 .left), ← q, eq-eqb _ _ (the-if2 .left), ← the-unknown .ensures, the-if3 .left, ← the-backwards .ensures, the-if4 .left), rw (lt-leb _ _ (the-if1 .left), ← q, eq-eqb _ _ (the-if2 .left), ← the-unknown .ensures, the-if3 .left, ← the-backwards .ensures, the-if4 .left) (rw (c .before .before .put-task-row .ensures _, c .before .before .before .started .ensures (the-args .z) (tables (the-args .z) d (the-args .tasks .now) cs es vs ms))))
+returns-5 c = let the-args = c .before .before .before .before .before .before .before .before .before .before .before .before .before .before .before .before .args in let the-backwards = c .before .before .before .before .before .before .backwards in let the-if1 = c .before .before .before .before .before .before .before .before .before .before .before .before .before .if1 in let the-if2 = c .before .before .before .before .before .before .before .before .before .if2 in let the-if3 = c .before .before .before .before .before .before .before .if3 in let the-if4 = c .before .before .before .before .before .if4 in let the-task-row = c .before .before .before .before .before .before .before .before .before .before .before .task-row in let the-unknown = c .before .before .before .before .before .before .before .before .unknown in λ d cs es vs ms. let q : the-task-row .result ≡ getD (taskRows (the-args .z .tasks) (the-args .tasks .now)) (the-args .n) idleTask = the-task-row .ensures ∙ sym (row-read (taskOf (the-args .tasks .now)) _ _ idleTask (the-if1 .left)) in (rw (lt-leb _ _ (the-if1 .left), ← q, eq-eqb _ _ (the-if2 .left), ← the-unknown .ensures, the-if3 .left, ← the-backwards .ensures, the-if4 .left), rw (lt-leb _ _ (the-if1 .left), ← q, eq-eqb _ _ (the-if2 .left), ← the-unknown .ensures, the-if3 .left, ← the-backwards .ensures, the-if4 .left) (rw (c .before .before .put-task-row .ensures .rows _, c .before .before .put-task-row .ensures .stacks (the-args .z) (the-if1 .left), c .before .before .before .started .ensures (the-args .z) (tables (the-args .z) d (the-args .tasks .now) cs es vs ms))))
 
 pub start-spec : {M : Type 1} → statement M
 start-spec =

@@ -9,7 +9,7 @@ decide-requires : tie.Need-decide-requires
 decide-requires c κs = search needs
 
 apply-requires : tie.Need-apply-requires
-apply-requires c κs = let the-args = c .before .before .before .before .before .before .before .before .before .before .before .before .before .before .before .before .args in let the-pre = c .before .before .before .before .before .before .before .before .before .before .before .before .before .before .before .before .pre in record { chunks = the-pre .0 .chunks; entries = the-pre .0 .entries; placed = rw (c .before .before .before .before .before .decide .ensures) (placed (the-args .z) (tables (the-args .z) (the-args .directory .now) (the-args .tasks .now) (the-args .chunks .now) (the-args .entries .now) (the-args .values .now) (the-args .marks .now)) (the-args .t) (the-pre .1) (the-pre .2)) }
+apply-requires c κs = let the-args = c .before .before .before .before .before .before .before .before .before .before .before .before .before .before .before .before .args in let the-pre = c .before .before .before .before .before .before .before .before .before .before .before .before .before .before .before .before .pre in record { chunks = the-pre .0 .chunks; entries = the-pre .0 .entries; placed = rw (c .before .before .before .before .before .decide .ensures) (placed (the-args .z) (tables (the-args .z) (the-args .directory .now) (the-args .tasks .now) (the-args .chunks .now) (the-args .entries .now) (the-args .values .now) (the-args .marks .now)) (the-args .n) (the-args .t) (the-pre .1) (the-pre .2)) }
 
 same-length : tie.Need-same-length
 same-length c = search needs
@@ -24,7 +24,7 @@ same-length-4 : tie.Need-same-length-4
 same-length-4 c = search needs
 
 returns : tie.Need-returns
-returns c = let the-apply = c .before .before .before .before .before .before .before .before .apply in let the-args = c .before .before .before .before .before .before .before .before .before .before .before .before .before .before .before .before .before .before .before .before .before .before .before .before .before .args in let the-decide = c .before .before .before .before .before .before .before .before .before .before .before .before .before .before .decide in turns (the-args .z) (tables (the-args .z) (the-args .directory .now) (the-args .tasks .now) (the-args .chunks .now) (the-args .entries .now) (the-args .values .now) (the-args .marks .now)) (the-args .t) (the-decide .result) (the-decide .ensures) (tables (the-args .z) (the-args .directory .now) (the-args .tasks .now) (the-apply .last .1 .0) (the-apply .last .1 .1 .0) (the-apply .last .1 .1 .1 .0) (the-apply .last .1 .1 .1 .1 .0)) (the-apply .ensures (the-args .directory .now) (the-args .tasks .now))
+returns c = let the-apply = c .before .before .before .before .before .before .before .before .apply in let the-args = c .before .before .before .before .before .before .before .before .before .before .before .before .before .before .before .before .before .before .before .before .before .before .before .before .before .args in let the-decide = c .before .before .before .before .before .before .before .before .before .before .before .before .before .before .decide in turns (the-args .z) (tables (the-args .z) (the-args .directory .now) (the-args .tasks .now) (the-args .chunks .now) (the-args .entries .now) (the-args .values .now) (the-args .marks .now)) (the-args .n) (the-args .t) (the-decide .result) (the-decide .ensures) (tables (the-args .z) (the-args .directory .now) (the-args .tasks .now) (the-apply .last .1 .0) (the-apply .last .1 .1 .0) (the-apply .last .1 .1 .1 .0) (the-apply .last .1 .1 .1 .1 .0)) (the-apply .ensures (the-args .directory .now) (the-args .tasks .now))
 
 pub move-on-spec : {M : Type 1} → statement M
 move-on-spec =

@@ -1,6 +1,6 @@
 //! Measures the linked calls beside the second implementation, and prints docs/BENCHMARKS.md.
 //! `bench` measures times, and instructions by running itself once under callgrind; `bench --once` makes each measured call once.
-use compare::states::{all_stages, at_stage, busy, case, heavy, long_lists, operate, with_chunks, with_keys, Case};
+use compare::states::{all_stages, at_stage, busy, busy_down, case, filled, heavy, long_lists, operate, with_chunks, with_keys, Case, STAGES};
 use compare::{linked_call, model_call, Call};
 use model::words::{blank, Words};
 use model::{Report, Stage, Tables};
@@ -151,7 +151,14 @@ const CHUNKS: [usize; 6] = [1, 2, 4, 8, 16, 30];
 fn sections() -> Vec<(String, Vec<Case>)> {
     let (hundred, _) = with_keys(100);
     let mut all = vec![("hundred".to_string(), all_stages(&hundred, &hundred))];
-    let mut longest = all_stages(&heavy(), &busy(long_lists(30, 559)));
+    let mut longest = all_stages(&busy(heavy()), &busy(long_lists(30, 559)));
+    assert_eq!(filled(&longest), 32);
+    let down = busy_down(heavy());
+    longest.push(case("the shape alone, seven stacks of 32", down.clone(), Call::Start(8, 1, 0, 0, 0)));
+    for stage in [Stage::TakeHandle, Stage::ScanDown] {
+        let name = format!("{}, seven stacks of 32", STAGES[stage.number() as usize - 1]);
+        longest.push(case(&name, at_stage(&down, stage), Call::Step(0)));
+    }
     let taking = |t| at_stage(&busy(t), Stage::TakeHandle);
     longest.push(case("8 take handle, 31 live and none retired", taking(long_lists(31, 559)), Call::Step(0)));
     longest.push(case(
@@ -183,6 +190,15 @@ fn stage_table(cases: &[Case], times: &[Figures], counts: &[Option<Figures>]) {
     }
 }
 
+/// Their names, numbers and arguments.
+const OPERATIONS: [(&str, u64, u64); 5] = [
+    ("get", 1, 0),
+    ("put", 2, 1),
+    ("remove", 6, 0),
+    ("full scan", 7, u64::MAX),
+    ("full scan down", 8, u64::MAX),
+];
+
 /// Whole operations at so many present keys: the start and every step to the end, over some keys.
 fn operations() {
     println!("| Operation | present keys | calls | Rattle ns | Rust ns | ratio |");
@@ -191,11 +207,11 @@ fn operations() {
         let (tables, keys) = with_keys(count);
         let mut words = blank();
         tables.to_words(&mut words);
-        for (name, op, sample, argument) in [("get", 1, 9, 0), ("put", 2, 9, 1), ("remove", 6, 9, 0), ("full scan", 7, 1, u64::MAX)] {
-            let sample: Vec<u64> = if op == 7 { vec![0] } else { keys.iter().copied().take(sample).collect() };
+        for (name, op, argument) in OPERATIONS {
+            let sample: Vec<u64> = if op >= 7 { vec![0] } else { keys.iter().copied().take(9).collect() };
             let calls: u64 = sample.iter().map(|&k| operate(&mut tables.clone(), op, k, argument)).sum::<u64>() / sample.len() as u64;
             let mut at = 0;
-            let figures = measure(&tables, &words, if op == 7 { 18 } else { 90 }, |call| {
+            let figures = measure(&tables, &words, if op >= 7 { 18 } else { 90 }, |call| {
                 let key = sample[at % sample.len()];
                 at += 1;
                 call(Call::Start(0, op, key, argument, 1));
@@ -255,11 +271,11 @@ fn main() {
 
     println!("# Figures\n");
     println!("Made by `tests/bench.sh` in one run, on {} with two cores. Rattle is the archive of `crates/host` that `tests/archive.sh` makes for this machine (LLVM at -O3), called through the C boundary; Rust is `rust/model`, the second implementation, built for release (opt-level 3). Both check the shape in every call, that each number lies in its table included; that a mark, a status or a stage is one of its kind is part of Rattle's check, and Rust's typed structs have it for nothing. It is the same program in the rules that it follows, not line for line: an earlier second implementation, with numbers that its types kept in their tables, walked fuller tables with fewer instructions (Rattle 1.17 times as many in the longest state, in 0.71 of its time). A time is the median of {RUNS} runs, the two sides in turn, and a run's is the median of 100 calls, each on the same state restored before it; a ratio is Rattle to Rust, below 1 where Rattle is faster. Instructions are callgrind's, of one call.\n", std::env::consts::ARCH);
-    println!("## A call of each stage\n\n100 keys present, put in random order; the other tasks are idle; the task works on the last key of the last chunk.\n");
+    println!("## A call of each stage\n\n100 keys present, put in random order; the other tasks are idle; the task works on the last key of the last chunk. The downward scan's fill takes the {} entries of the longest list.\n", filled(&all[0].1));
     stage_table(&all[0].1, &times[0], &counts[0]);
-    println!("\n## Whole operations\n\nThe start and every step to the end, nobody else at work, over nine present keys (10, 100 and 500 keys put in random order). Put finds its key.\n");
+    println!("\n## Whole operations\n\nThe start and every step to the end, nobody else at work, over nine present keys (10, 100 and 500 keys put in random order). Put finds its key. A full scan is of all keys, upward and downward.\n");
     operations();
-    println!("\n## The longest masked time\n\nOne call is one masked time. Every part of a call's cost grows with the used entries, the linked ones, the live chunks, the tasks at work and the place of what is sought, so the state has them all at their most: 31 live chunks and a retired one that waits for its release, each list of 32 linked entries and the last chunk's of 31; 559 keys present, in the chunks of the highest numbers, the other entries naming none after a remove; seven tasks at stage 5, each at the end of a list of 32; task 0 works at the end of the last chunk. The last two lines have no retired chunk, and 559 and 560 keys present. For the rebalance 30 chunks are live, and it takes the last. The states are reached by puts in ascending order with a rebalance of each full chunk, then removes, and puts and removes of keys between them.\n");
+    println!("\n## The longest masked time\n\nOne call is one masked time. Every part of a call's cost grows with the used entries, the linked ones, the live chunks, the tasks at work and the place of what is sought, so the state has them all at their most: 31 live chunks and a retired one that waits for its release, each list of 32 linked entries and the last chunk's of 31; 559 keys present, in the chunks of the highest numbers, the other entries naming none after a remove; seven tasks at stage 5, each at the end of a list of 32; task 0 works at the end of the last chunk, and its downward scan's fill takes 32 entries. Three lines more have the seven tasks at stage 23 instead, each with a list of 32 on its stack. The last two lines have no retired chunk, and 559 and 560 keys present. For the rebalance 30 chunks are live, and it takes the last. The states are reached by puts in ascending order with a rebalance of each full chunk, then removes, and puts and removes of keys between them.\n");
     stage_table(&all[1].1, &times[1], &counts[1]);
     println!("\n## With the number of live chunks\n\nChunks of 16 keys, put in ascending order; the other tasks are idle. Rattle's nanoseconds (ratio to Rust); its thousands of instructions (ratio).\n");
     growth(&all, &times, &counts);

@@ -1,11 +1,13 @@
 //! Compares the proved calls, through the C boundary, with the second implementation: every report and every word of every table
-//! after every call, on random runs from fresh and on damaged tables. `compare [SEED [CALLS]]`: CALLS of each kind, of the archive
-//! that is linked or of the program that KAMRDUCH_LEND names.
+//! after every call, on random runs from fresh, on damaged tables and on damaged stacks. `compare [SEED [CALLS]]`: CALLS of each kind,
+//! of the archive that is linked or of the program that KAMRDUCH_LEND names.
 use compare::damage::{any_call, damage, gentle, place};
 use compare::runs::{filling, habit, next_call, odd_call, run_keys};
+use compare::stacks::{change, scan_down, WAYS};
+use compare::states::scans_down;
 use compare::{model_call, Call, Chance, Host};
-use model::words::{blank, Words, LENGTHS, NONE};
-use model::{Report, Tables, TASKS};
+use model::words::{blank, Words, LENGTHS, NONE, TASK_ROWS};
+use model::{Report, Tables, ENTRIES, TASKS};
 
 /// How often each thing was met.
 #[derive(Default)]
@@ -13,7 +15,7 @@ struct Met {
     calls: u64,
     reports: [u64; 13],
     refusals: [u64; 11],
-    stages: [u64; 23],
+    stages: [u64; 24],
 }
 
 impl Met {
@@ -23,7 +25,7 @@ impl Met {
         if told.0 == 0 {
             self.refusals[told.1 as usize] += 1;
         }
-        if stage < 23 {
+        if stage < 24 {
             self.stages[stage as usize] += 1;
         }
     }
@@ -32,7 +34,7 @@ impl Met {
         println!("{what}: {} calls, all the same", self.calls);
         println!("  by report 0 to 12: {:?}", self.reports);
         println!("  by refusal 1 to 10: {:?}", &self.refusals[1..]);
-        println!("  steps by stage 1 to 22: {:?}", &self.stages[1..]);
+        println!("  steps by stage 1 to 23: {:?}", &self.stages[1..]);
     }
 }
 
@@ -57,8 +59,12 @@ fn differ(seed: u64, call: Call, what: &str, pair: &Pair) -> ! {
         }
     }
     eprintln!("  directory {:?}", pair.before[0]);
-    for row in pair.before[1].chunks(11) {
+    let (rows, stacks) = pair.before[1].split_at(TASK_ROWS.min(pair.before[1].len()));
+    for row in rows.chunks(11) {
         eprintln!("  task {row:?}");
+    }
+    for stack in stacks.chunks(ENTRIES) {
+        eprintln!("  stack {stack:?}");
     }
     for row in pair.before[2].chunks(6) {
         eprintln!("  chunk {row:?}");
@@ -208,23 +214,55 @@ fn damaged(host: &mut Host, seed: u64, calls: u64, reached: &[Words], met: &mut 
         }
         if r.once_in(12) {
             let t = r.below(6);
-            let n = r.of(&[0, 1, LENGTHS[t] - 1, LENGTHS[t] + 1, LENGTHS[t] * 2, LENGTHS[(t + 1) % 6]]);
+            let n = r.of(&[0, 1, LENGTHS[t] - 1, LENGTHS[t] + 1, LENGTHS[t] * 2, LENGTHS[(t + 1) % 6], TASK_ROWS]);
             w[t].resize(n, 0);
         }
-        let mut pair = Pair::of(&w);
-        for _ in 0..1 + r.below(8) {
-            let call = any_call(&mut r, &pair.words);
-            if r.once_in(50) {
-                pair.untold(host, seed, call, r.of(&[0, 1, 3, 1000]));
-            }
-            let report = pair.call(host, seed, call, met);
-            passed += (report != Report::Refused(10)) as u64;
-            if report == Report::Refused(10) && call != Call::Fresh {
-                break;
-            }
+        passed += calls_on(host, seed, &mut r, &w, met);
+    }
+    passed
+}
+
+/// Up to eight calls on the words, fewer where one is refused by 10; how many were not.
+fn calls_on(host: &mut Host, seed: u64, r: &mut Chance, w: &Words, met: &mut Met) -> u64 {
+    let (mut pair, mut passed) = (Pair::of(w), 0);
+    for _ in 0..1 + r.below(8) {
+        let call = any_call(r, &pair.words);
+        if r.once_in(50) {
+            pair.untold(host, seed, call, r.of(&[0, 1, 3, 1000]));
+        }
+        let report = pair.call(host, seed, call, met);
+        passed += (report != Report::Refused(10)) as u64;
+        if report == Report::Refused(10) && call != Call::Fresh {
+            break;
         }
     }
     passed
+}
+
+/// Stacks, as they are reached and damaged: a state with tasks that scan down, one of their stacks changed in one way or in none; then up
+/// to eight calls. How many states of each way there were, and how many had the shape.
+fn stacked(host: &mut Host, seed: u64, calls: u64, reached: &[Words], met: &mut Met) -> [(u64, u64); WAYS + 1] {
+    let mut r = Chance::new(seed ^ 0x57ac);
+    let mut ways = [(0, 0); WAYS + 1];
+    let scans = scans_down().map(|t| {
+        let mut words = blank();
+        t.to_words(&mut words);
+        words
+    });
+    while met.calls < calls {
+        let (mut w, mut n) = (scans[r.below(scans.len())].clone(), 1 + r.below(TASKS - 1));
+        if r.once_in(2) {
+            w = reached[r.below(reached.len())].clone();
+            n = scan_down(&mut r, &mut w);
+            scan_down(&mut r, &mut w);
+        }
+        let way = r.below(WAYS + 1);
+        change(&mut r, &mut w, n, way);
+        let passed = calls_on(host, seed, &mut r, &w, met);
+        ways[way].0 += 1;
+        ways[way].1 += (passed > 0) as u64;
+    }
+    ways
 }
 
 fn main() {
@@ -238,4 +276,8 @@ fn main() {
     let passed = damaged(&mut host, seed, calls, &reached, &mut met);
     met.print("damaged tables");
     println!("  with the shape: {passed}");
+    let mut met = Met::default();
+    let ways = stacked(&mut host, seed, calls, &reached, &mut met);
+    met.print("stacks, damaged in each way and in none");
+    println!("  states of each way, and with the shape: {ways:?}");
 }

@@ -1,9 +1,12 @@
 //! Helpers of the tests, and the tests by kind.
+mod down;
 mod marked;
 mod random;
 mod refused;
 mod runs;
+mod scans;
 mod shapes;
+mod stacks;
 
 use crate::words::*;
 use crate::*;
@@ -15,6 +18,7 @@ pub const UPSERT: u64 = 4;
 pub const COMPUTE: u64 = 5;
 pub const REMOVE: u64 = 6;
 pub const SCAN: u64 = 7;
+pub const SCAN_DOWN: u64 = 8;
 
 pub const VALUE_50: Report = Report::Finished(Answer::Value(50));
 pub const ABSENT: Report = Report::Finished(Answer::Absent);

@@ -4,7 +4,7 @@ use super::*;
 /// How many spoilt tables are tried; more where the build is quick.
 const ROUNDS: usize = if cfg!(debug_assertions) { 5_000 } else { 300_000 };
 
-struct Random(u64);
+pub struct Random(pub u64);
 
 impl Random {
     fn next(&mut self) -> u64 {
@@ -20,13 +20,13 @@ impl Random {
 }
 
 /// One random call; few keys make the tasks meet, and many with rare rebalances fill the chunks.
-fn any_call(tables: &mut Tables, random: &mut Random, keys: u64) -> Report {
+pub fn any_call(tables: &mut Tables, random: &mut Random, keys: u64) -> Report {
     let key = random.below(keys);
     match random.below(40) {
         0 if keys < 100 || random.below(10) == 0 => tables.begin(key),
         1..=3 => tables.rebalance(),
         4..=11 => {
-            let (n, operation) = (random.below(9), random.below(9));
+            let (n, operation) = (random.below(9), random.below(10));
             let (argument, function) = (random.below(keys), random.below(5));
             tables.start(n, operation, key, argument, function)
         }
@@ -51,7 +51,7 @@ fn check_map(before: &Tables, after: &Tables) {
 #[derive(Default)]
 struct Seen {
     reports: [u64; 13],
-    stages: [u64; 23],
+    stages: [u64; 24],
 }
 
 /// A random run from a fresh directory, checked at each call.
@@ -93,7 +93,7 @@ fn any_word(random: &mut Random) -> u64 {
         1 => random.below(2),
         2 => random.below(33),
         3 => random.below(561),
-        4 => random.below(23),
+        4 => random.below(24),
         _ => NONE - random.below(3),
     }
 }
@@ -154,7 +154,9 @@ fn spoilt_structs_bring_no_panic() {
             let mut tables = after_m2();
             start(&mut tables, 0, GET, 5, 0, 0);
             steps(&mut tables, 0, 3);
-            let mut spoilt: Vec<Tables> = vec![tables; 9];
+            start(&mut tables, 1, SCAN_DOWN, 0, 9, 0);
+            steps(&mut tables, 1, 1);
+            let mut spoilt: Vec<Tables> = vec![tables; 11];
             spoilt[0].first = a;
             spoilt[1].rebalance = Rebalance::Drain(a);
             spoilt[2].rebalance = Rebalance::SwapIn(a, b, Some(a));
@@ -171,6 +173,12 @@ fn spoilt_structs_bring_no_panic() {
             }
             if let Some(task) = &mut spoilt[8].tasks[0] {
                 (task.old, task.new) = (Some(a), Some(b));
+            }
+            if let Some(task) = &mut spoilt[9].tasks[1] {
+                (task.chunk, task.key) = (Some(a), b as u64);
+            }
+            if let Some(task) = &mut spoilt[10].tasks[1] {
+                task.stack = [a, b].into_iter().collect();
             }
             for tables in &spoilt {
                 tables.locate(a as u64);

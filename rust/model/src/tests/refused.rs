@@ -30,15 +30,17 @@ fn three_step_of_an_idle_task() {
 
 #[test]
 fn four_scan_backwards() {
-    refuses(&mut Tables::fresh(), 4, |tables| tables.start(0, SCAN, 6, 5, 0));
-    refuses(&mut Tables::fresh(), 4, |tables| tables.start(0, SCAN, u64::MAX, 0, 77));
-    start(&mut Tables::fresh(), 0, SCAN, 6, 6, 77);
+    for scan in [SCAN, SCAN_DOWN] {
+        refuses(&mut Tables::fresh(), 4, |tables| tables.start(0, scan, 6, 5, 0));
+        refuses(&mut Tables::fresh(), 4, |tables| tables.start(0, scan, u64::MAX, 0, 77));
+        start(&mut Tables::fresh(), 0, scan, 6, 6, 77);
+    }
     start(&mut Tables::fresh(), 0, PUT, 6, 5, 77);
 }
 
 #[test]
 fn five_operation_or_function() {
-    for operation in [0, 8, u64::MAX] {
+    for operation in [0, 9, u64::MAX] {
         refuses(&mut Tables::fresh(), 5, |tables| tables.start(0, operation, 6, 5, 1));
     }
     for function in [0, 4, u64::MAX] {
@@ -60,6 +62,7 @@ fn unused_arguments_are_kept_as_0() {
         (COMPUTE, 9, 3),
         (REMOVE, 0, 0),
         (SCAN, 9, 0),
+        (SCAN_DOWN, 9, 0),
     ];
     for (operation, argument, function) in kept {
         let mut tables = Tables::fresh();
@@ -69,7 +72,12 @@ fn unused_arguments_are_kept_as_0() {
             (task.operation.number(), task.key, task.argument, task.function),
             (operation, 5, argument, function)
         );
-        assert_eq!(task.stage.number(), if operation == SCAN { 22 } else { 1 });
+        let stage = match operation {
+            SCAN => 22,
+            SCAN_DOWN => 23,
+            _ => 1,
+        };
+        assert_eq!((task.stage.number(), task.stack), (stage, Stack::default()));
     }
 }
 

@@ -22,6 +22,9 @@ room-requires c κs = search needs
 task-line-requires : tie.Need-task-line-requires Inv-loop μ-loop
 task-line-requires c κs = search needs
 
+stack-requires : tie.Need-stack-requires Inv-loop μ-loop
+stack-requires c κs = search needs
+
 add-i : tie.Need-add-i Inv-loop μ-loop
 add-i c = search needs
 
@@ -44,6 +47,7 @@ all-tasks-spec =
     task-row-requires
     room-requires
     task-line-requires
+    stack-requires
     add-i
     loop-less
     loop-again

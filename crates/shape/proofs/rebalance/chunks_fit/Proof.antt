@@ -5,8 +5,8 @@ use borrow.Author.Needs.{needs}
 use borrow.Author.Tests.{not-true, not-false}
 use Rattle.rules.specs.Shape.{each, chunkFits}
 use Rattle.rows.specs.Rows.{chunkOf, chunkRows}
-use Rattle.shape.specs.Parts.{bare}
-use Rattle.shape.proofs.Rows.{rest, each-start, each-end, each-fails, each-passes}
+use Rattle.listed.specs.Parts.{bare}
+use Rattle.listed.proofs.Rows.{rest, each-start, each-end, each-fails, each-passes}
 use Rattle.shape.proofs.rebalance.chunks_fit.Statement.{statement}
 use Rattle.shape.proofs.rebalance.chunks_fit.Tie as tie
 

@@ -1,5 +1,5 @@
 use mathlib.Core.Path.{sym, _∙_}
-use Rattle.shape.proofs.Chain.{stage-fails, stage-holds}
+use Rattle.shape.proofs.Fits.{stage-fails, stage-holds}
 use borrow.Author.Needs.{needs}
 use Rattle.shape.proofs.rebalance.rebalance_fits.Statement.{statement}
 use Rattle.shape.proofs.rebalance.rebalance_fits.Tie as tie

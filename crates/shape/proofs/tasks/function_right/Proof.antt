@@ -1,4 +1,4 @@
-use Rattle.shape.proofs.Tests.{and-is, or-gives}
+use Rattle.listed.proofs.Tests.{and-is, or-gives}
 use Rattle.shape.proofs.tasks.function_right.Statement.{statement}
 use Rattle.shape.proofs.tasks.function_right.Tie as tie
 

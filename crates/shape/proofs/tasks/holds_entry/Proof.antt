@@ -1,5 +1,5 @@
 use lib.Dec.{ltb, eqb}
-use Rattle.shape.proofs.Tests.{both-fail, both-hold}
+use Rattle.listed.proofs.Tests.{both-fail, both-hold}
 use mathlib.Core.Path.{sym, _∙_}
 use borrow.Author.Tests.{eq-eqb, ne-eqb, not-true, not-false}
 use borrow.Author.Needs.{needs}

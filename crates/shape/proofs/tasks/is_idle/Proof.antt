@@ -1,4 +1,4 @@
-use Rattle.shape.proofs.Tests.{and-is, and-and}
+use Rattle.listed.proofs.Tests.{and-is, and-and}
 use Rattle.shape.proofs.tasks.is_idle.Statement.{statement}
 use Rattle.shape.proofs.tasks.is_idle.Tie as tie
 

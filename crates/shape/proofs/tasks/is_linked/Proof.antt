@@ -4,7 +4,7 @@ use native.Mathlib.Omega.{arith}
 use borrow.Author.Needs.{needs}
 use Rattle.rules.specs.Shape.{linkedFrom}
 use Rattle.rows.specs.Rows.{entryRows}
-use Rattle.shape.proofs.Lists.{linked-spent, linked-past, linked-here, linked-next}
+use Rattle.listed.proofs.Lists.{linked-spent, linked-past, linked-here, linked-next}
 use Rattle.shape.proofs.tasks.is_linked.Statement.{statement}
 use Rattle.shape.proofs.tasks.is_linked.Tie as tie
 

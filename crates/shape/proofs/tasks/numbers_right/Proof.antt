@@ -1,5 +1,5 @@
 use mathlib.Core.Path.{_∙_}
-use Rattle.shape.proofs.Tests.{and-six}
+use Rattle.listed.proofs.Tests.{and-six}
 use borrow.Author.Needs.{needs}
 use Rattle.shape.proofs.tasks.numbers_right.Statement.{statement}
 use Rattle.shape.proofs.tasks.numbers_right.Tie as tie

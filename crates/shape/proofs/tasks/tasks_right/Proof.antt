@@ -5,8 +5,8 @@ use borrow.Author.Needs.{needs}
 use borrow.Author.Tests.{not-true, not-false}
 use Rattle.rules.specs.Shape.{each, taskRight}
 use Rattle.rows.specs.Rows.{taskOf, taskRows}
-use Rattle.shape.specs.Parts.{asked}
-use Rattle.shape.proofs.Rows.{rest, each-start, each-end, each-fails, each-passes}
+use Rattle.listed.specs.Parts.{asked}
+use Rattle.listed.proofs.Rows.{rest, each-start, each-end, each-fails, each-passes}
 use Rattle.shape.proofs.tasks.tasks_right.Statement.{statement}
 use Rattle.shape.proofs.tasks.tasks_right.Tie as tie
 

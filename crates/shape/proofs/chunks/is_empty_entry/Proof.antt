@@ -1,9 +1,0 @@
-use Rattle.shape.proofs.Tests.{and-and, and-is}
-use Rattle.shape.proofs.chunks.is_empty_entry.Statement.{statement}
-use Rattle.shape.proofs.chunks.is_empty_entry.Tie as tie
-
-returns : tie.Need-returns
-returns c = simp (and-and, and-is)
-
-pub is-empty-entry-spec : {M : Type 1} → statement M
-is-empty-entry-spec = tie.close (tie.spec returns)
