@@ -286,6 +286,13 @@ fn main() {
             println!("The check of the shape is nearly all of a call: {:.0} of {:.0} instructions of a scan's step at 100 keys. So all stages but 8 cost the same, and grow with the used entries and the live chunks as the check does. Rattle's check also tests what Rust's types rule out: 560 marks, every status, stage and flag.", shape.linked, scan.linked);
         }
     }
+    let taken = |name: &str| {
+        let at = all[0].1.iter().position(|c| c.name.starts_with(name));
+        at.and_then(|i| counts[0][i]).map(|count| count.linked)
+    };
+    if let (Some(up), Some(down), Some(fill)) = (taken("22"), taken("23 scan down, one off"), taken("23 scan down, a fill")) {
+        println!("A full scan down takes one call more than one upward, and its steps cost the same: {down:.0} instructions where it takes an entry off and {fill:.0} where it fills its stack, beside {up:.0} of an upward step. Document 000 finds descending scans to be where other designs lose most.\n");
+    }
     let [hundred, longest] = [&all[0].1[0], &all[1].1[0]].map(|c| {
         median(
             (0..RUNS)
