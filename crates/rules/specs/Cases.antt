@@ -44,10 +44,11 @@ unfoldable pub moves : ℕ → ℕ → List Line
 moves n zero = []
 moves n (suc many) = reports (step n) report.Moved ∷ moves n many
 
--- an operation of the task whose step of that number is its first not to move on, and reports that: its answer, or why it restarts; and the tables then have the shape
+-- an operation of the task whose step of that number is its first not to move on, and reports that: its answer, or why it restarts
 abbrev pub ends : ℕ → ℕ → ℕ → ℕ → ℕ → ℕ → Report → List Line
 ends n op k a f steps answer = reports (start n op k a f) report.Moved ∷ moves n (steps - 1) ++ reports (step n) answer ∷ []
 
+-- and the tables then have the shape
 abbrev pub finishes : ℕ → ℕ → ℕ → ℕ → ℕ → ℕ → Report → List Line
 finishes n op k a f steps answer = ends n op k a f steps answer ++ shaped ∷ []
 

@@ -241,7 +241,7 @@ module _ (z : Sizes) (s : Tables) (t : Task) where
       let empty = pick isLowest (finishes write.Nothing report.Done) filled in
       pick (ltb (topOf n .0) (z .entries)) (takesOff (topOf n)) empty
 
-  -- the task's stack after its step: one entry is off it, or it is filled, or it stays as it is
+  -- the task's stack after its step: one entry is off it, or it is filled, or it stays as it is; a scan ends on an empty one and no other stage has one, so no step clears any
   abbrev pub stackThen : ℕ → List EntryNo
   stackThen n =
       let w = stack s n in

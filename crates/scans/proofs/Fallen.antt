@@ -96,7 +96,7 @@ module _ (z : Sizes) (lim : Limited z) (run : ℕ → Call) (n k a f j : ℕ) wh
           none o = ⊎-elim (λ i. absurd (omega (arith, i, o))) (λ e. e) (number-cases (z .chunks) (at z lim run n i₁ .chunk .0) (holding z (tablesAt z run i₁ .chunks) (tablesAt z run i₁ .entries) (at z lim run n i₁) (kept z lim run n i₁ .tasks n) 23 (h₁ .stage) (omega arith) .chunk))
 
           go : Sinking z (tablesAt z run i₁) n (decision z lim run n i₁) (Stages.stackThen z (tablesAt z run i₁) (at z lim run n i₁) n) → SinksAt z run n i₁
-          go (Sinking.takes _ _ _ _ _ less-deep) = SinksAt.takes (rw (tables-next z run i₁, b .stack) less-deep)
+          go (Sinking.takes _ _ _ is now-on less-deep) = SinksAt.takes (next-row z lim run n k a f j i₁ h₁ (w .before) b _ _ is _ now-on) (rw (tables-next z run i₁, b .stack) less-deep)
           go (Sinking.ends _ is _ _) = absurd (false≢true (sym silent ∙ said is))
           go (Sinking.fills empty is higher now-on) =
               elim (decLt (at z lim run n i₁ .chunk .0) (z .chunks)) [

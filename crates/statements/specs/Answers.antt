@@ -81,9 +81,9 @@ module _ (z : Sizes) (run : ℕ → Call) where
     pub before : at < i
     pub gives : GivesAt n at q value
 
-  -- step i of a downward scan comes nearer to its end: it takes an entry off its stack, or holds its first chunk, or one with a lower minimum key
+  -- step i of a downward scan comes nearer to its end: it takes an entry off its stack and its row stays, or it holds its first chunk, or one with a lower minimum key
   pub data SinksAt (n i : ℕ) : Type 0 where
-    takes : depth z (stack (tablesAt z run (suc i)) n) < depth z (stack (tablesAt z run i) n) → SinksAt n i
+    takes : taskAt z run (suc i) n ≡ taskAt z run i n → depth z (stack (tablesAt z run (suc i)) n) < depth z (stack (tablesAt z run i) n) → SinksAt n i
     begins : taskAt z run i n .chunk .0 ≡ NONE → taskAt z run (suc i) n .chunk .0 < z .chunks → SinksAt n i
     lowers : chunk (tablesAt z run (suc i)) (taskAt z run (suc i) n .chunk) .min < chunk (tablesAt z run i) (taskAt z run i n .chunk) .min → SinksAt n i
 
