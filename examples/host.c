@@ -164,6 +164,23 @@ static int list(uint64_t scan)
     return report == KAMRDUCH_FINISHED_DONE;
 }
 
+/* a put or a remove by task 0 alone, to its end: prints what stood there, and is true where that is as expected */
+static int tells(uint64_t operation, uint64_t key, uint64_t argument, uint64_t expected, uint64_t former)
+{
+    uint64_t report = start(0, operation, key, argument, 0);
+    while (report >= KAMRDUCH_MOVED_ON && report <= KAMRDUCH_RESTARTED_LOST) {
+        if (report == KAMRDUCH_RESTARTED_FULL || report == KAMRDUCH_RESTARTED_FROZEN)
+            balance(key);
+        report = step(0);
+    }
+    printf("%s %" PRIu64 ": ", operations[operation], key);
+    if (report == KAMRDUCH_FINISHED_VALUE)
+        printf("%" PRIu64 " stood there\n", answer[0]);
+    else
+        printf("%s\n", report == KAMRDUCH_FINISHED_ABSENT ? "absent" : "neither a value nor absent");
+    return report == expected && answer[0] == former;
+}
+
 int main(void)
 {
     if (fresh() != KAMRDUCH_FINISHED_DONE)
@@ -203,6 +220,10 @@ int main(void)
     printf("refusals: %lu; chunks: %lu live, %lu slots used\n", refusals, live, used);
 
     if (!list(KAMRDUCH_SCAN) || !list(KAMRDUCH_SCAN_DOWN))
+        return 1;
+    /* what was replaced: a put of a new key and one over it, a remove of a present key and one of an absent */
+    if (!tells(KAMRDUCH_PUT, 400, 7, KAMRDUCH_FINISHED_ABSENT, 0) || !tells(KAMRDUCH_PUT, 400, 8, KAMRDUCH_FINISHED_VALUE, 7) ||
+        !tells(KAMRDUCH_REMOVE, 400, 0, KAMRDUCH_FINISHED_VALUE, 8) || !tells(KAMRDUCH_REMOVE, 400, 0, KAMRDUCH_FINISHED_ABSENT, 0))
         return 1;
     printf("calls: %lu, interrupts are %s\n", masks, masked ? "masked" : "unmasked");
     return 0;

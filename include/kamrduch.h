@@ -95,14 +95,18 @@ enum kamrduch_rebalance_stage {
 /* ---- what a task is asked to do */
 enum kamrduch_operation {
     KAMRDUCH_GET = 1,           /* answers a value or absent */
-    KAMRDUCH_PUT = 2,           /* done */
+    KAMRDUCH_PUT = 2,           /* the value that it replaced, or absent */
     KAMRDUCH_PUT_IF_ABSENT = 3, /* true or false */
     KAMRDUCH_UPSERT = 4,        /* done; stores the argument where the key is absent, else applies the function with it */
     KAMRDUCH_COMPUTE = 5,       /* true or false */
-    KAMRDUCH_REMOVE = 6,        /* true or false */
+    KAMRDUCH_REMOVE = 6,        /* the value that it removed, or absent */
     KAMRDUCH_SCAN = 7,          /* pairs from the key up to the argument, left out; then done */
     KAMRDUCH_SCAN_DOWN = 8      /* the same range, from the largest key down */
 };
+
+/* A put and a remove answer the value that the key had just before the step that decides: stage 5 of either, or a put's swap at stage
+ * 11, where it had none. What other tasks stored up to that step counts, and nothing that they do after it. A remove that answers
+ * absent has removed nothing. */
 
 /* of upsert and compute; other operations take any number */
 enum kamrduch_function { KAMRDUCH_ADD = 1 /* modulo 2^64 */, KAMRDUCH_LARGER = 2, KAMRDUCH_OR = 3 };
@@ -115,7 +119,7 @@ enum kamrduch_report {
     KAMRDUCH_RESTARTED_FULL = 3,
     KAMRDUCH_RESTARTED_LOST = 4,
     KAMRDUCH_PAIR = 5,           /* answer[0]: the key; answer[1]: the value */
-    KAMRDUCH_FINISHED_VALUE = 6, /* answer[0]: the value */
+    KAMRDUCH_FINISHED_VALUE = 6, /* answer[0]: the value; of a put or a remove the former one */
     KAMRDUCH_FINISHED_ABSENT = 7,
     KAMRDUCH_FINISHED_DONE = 8,
     KAMRDUCH_FINISHED_TRUE = 9,

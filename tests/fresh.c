@@ -47,7 +47,8 @@ static void works(void)
 {
     expect(does(KAMRDUCH_GET, 5, 0, 0) == KAMRDUCH_FINISHED_ABSENT && steps == 2, "get of an absent key");
     expect(does(KAMRDUCH_PUT_IF_ABSENT, 5, 50, 0) == KAMRDUCH_FINISHED_TRUE && steps == 9, "putIfAbsent");
-    expect(does(KAMRDUCH_PUT, 5, 60, 0) == KAMRDUCH_FINISHED_DONE && steps == 5, "put");
+    expect(does(KAMRDUCH_PUT, 5, 60, 0) == KAMRDUCH_FINISHED_VALUE && steps == 5 && answer[0] == 50, "put over a present key");
+    expect(does(KAMRDUCH_PUT, 6, 1, 0) == KAMRDUCH_FINISHED_ABSENT && steps == 9 && answer[0] == 0, "put of a new key");
     expect(does(KAMRDUCH_COMPUTE, 5, 7, KAMRDUCH_ADD) == KAMRDUCH_FINISHED_TRUE, "compute");
     expect(does(KAMRDUCH_GET, 5, 0, 0) == KAMRDUCH_FINISHED_VALUE && steps == 4 && answer[0] == 67, "get");
 }
@@ -69,7 +70,8 @@ static void splits(void)
 /* every key but 5, in order */
 static void scans(void)
 {
-    expect(does(KAMRDUCH_REMOVE, 5, 0, 0) == KAMRDUCH_FINISHED_TRUE && steps == 11, "remove");
+    expect(does(KAMRDUCH_REMOVE, 5, 0, 0) == KAMRDUCH_FINISHED_VALUE && steps == 11 && answer[0] == 67, "remove");
+    expect(does(KAMRDUCH_REMOVE, 5, 0, 0) == KAMRDUCH_FINISHED_ABSENT && steps == 3 && answer[0] == 0, "remove of an absent key");
     uint64_t report = does(KAMRDUCH_SCAN, 0, UINT64_MAX, 0);
     for (uint64_t key = 1; key <= 17; key++)
         if (key != 5) {

@@ -61,7 +61,7 @@ pub record Kamrduch : Type 0 where
   pub at-limits : Demands limits
   -- no insertion is refused a handle while fewer than 512 keys are present
   pub keys : promised limits ≡ 512
-  -- something finishes: the marked cases, M1 to M12, three more and those of scans down, every report and what the tables then show
+  -- something finishes: the marked cases, M1 to M12, three more, those of scans down and those of former values, every report and what the tables then show
   pub marked : map (runs calls (fresh limits)) markedCases ≡ map (map says) markedCases
   -- tables that break one clause of the shape, each clause by one of the list: every call on them is refused by 10
   pub broken : (s : Tables) → List·Memᴰ s brokenTables → (c : Call) → calls limits s c ≡ gives s (report.Refused 10)

@@ -149,8 +149,8 @@ module _ (z : Sizes) (lim : Limited z) (run : ℕ → Call) where
     never : past t ≡ false → decides z s t ≡ false → NeverDecides z run n j (suc i)
     never was d = never-on z lim run n op k a f j i (before was) (quiet d)
 
-    changed : x .report ≡ changeAnswer (t .operation) → ByChange z run n op k a f j (suc i) (changeAnswer op) → Answered (x .report)
-    changed r c = inl (subst (ByChange z run n op k a f j (suc i)) (sym (r ∙ ap changeAnswer (g .started .operation))) c)
+    changed : x .report ≡ changeAnswer s t → ByChange z run n op k a f j (suc i) (changeAnswer s t) → Answered (x .report)
+    changed r c = inl (subst (ByChange z run n op k a f j (suc i)) (sym r) c)
 
     by-end : isScan op ≡ false → Ends z s n x → Answered (x .report)
     by-end ne (Ends.changes was d u r) = changed r (change-here z lim run n op k a f j i (w .before) (g .started) ne (record { own = e; deciding = d }))

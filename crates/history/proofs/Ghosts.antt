@@ -2,61 +2,64 @@
 use Prim.Native.Nat.{ℕ, zero, suc, _≤_, _<_}
 use mathlib.Core.Path.{_≡_, refl, sym, ap, _∙_, subst}
 use mathlib.Core.Logic.{_⊎_, inl, inr, ⊎-elim, ⊎-map, _≢_}
-use mathlib.Core.Bool.{true, false, false≢true}
+use mathlib.Core.Bool.{Bool, true, false, false≢true}
 use mathlib.Core.List.{List}
 use mathlib.Core.Option.{Option, none, some}
 use native.Mathlib.Nat.{not-suc-le-zero, le-refl}
 use native.Mathlib.Decide.{ℕ-discrete}
 use native.Mathlib.Omega.{arith}
 use lib.Dec.{eqb}
-use borrow.Author.Tests.{eqb-true, lt-ltb}
+use borrow.Author.Tests.{eqb-true, lt-ltb, le-leb}
 use Rattle.rules.specs.declared.Sizes.{Sizes}
 use Rattle.rules.specs.declared.Task.{Task}
 use Rattle.rules.specs.declared.Decision.{Decision}
 use Rattle.rules.specs.declared.Report.{Report}
+use Rattle.rules.specs.declared.Report.the-variants as report
 use Rattle.rules.specs.Words.{pick, _or_, get, upsert, compute, remove, scan, scanDown, isScan, usesFunction}
-use Rattle.rules.specs.Tables.{Tables}
+use Rattle.rules.specs.Tables.{Tables, value}
 use Rattle.rules.specs.Stages
 use Rattle.rules.specs.Rebalance.{Outcome}
-use Rattle.rules.specs.Calls.{Call, started}
+use Rattle.rules.specs.Calls.{Call, started, calls}
 use Rattle.rules.specs.Map.{Pair, Effect, lookup, bySeen, sequential}
-use Rattle.laws.proofs.Tests.{by-test, or-cases, or-left, or-right}
+use Rattle.map.proofs.Sequential.{removed-found}
+use Rattle.laws.proofs.Tests.{picked, by-test, or-cases, or-left, or-right}
 use Rattle.statements.specs.Sound.{Limited}
 use Rattle.statements.specs.Runs.{decides, mapThen, tablesAt, mapAt, taskAt, DecidesAt, Working, Stepped}
-use Rattle.simulation.specs.Beside.{changeAnswer}
+use Rattle.simulation.specs.Beside.{replaces, changeAnswer}
 use Rattle.simulation.proofs.Deciding.{is-none}
 use Rattle.simulation.proofs.Simulating.{beside-holds, beside-changes}
 use Rattle.statements.specs.Answers.{NeverDecides, ByChange}
 use Rattle.facts.proofs.Reaching.{run-reached}
 use Rattle.history.specs.Turns.{Begins, Steps, Rests, Came}
-use Rattle.history.specs.Goes.{past, looksIn, looksOld, Gone, AbsentIn, Onward, stepped, Follows, Goes}
-use Rattle.history.specs.Ghosts.{Started, WasAbsent, Ghost}
+use Rattle.history.specs.Goes.{past, looksIn, looksOld, Gone, AbsentIn, Onward, stepped, Follows, Carries, Goes}
+use Rattle.history.specs.Ghosts.{Started, WasAbsent, Ghost, RemovedValue}
 use Rattle.history.proofs.Runs.{run-beside, tables-next, map-next, row-next, came}
-use Rattle.history.proofs.Shown.{gone-back}
-use Rattle.history.proofs.Stepping.{decides-goes}
+use Rattle.history.proofs.Shown.{value-stays, gone-back}
+use Rattle.history.proofs.Stepping.{answer-like, decides-goes}
 
 -- ---- the sequential map, by what a row keeps
 module _ (m : List Pair) (op k a f : ℕ) where
-  abbrev Kept-as : Option ℕ → Type 0
-  Kept-as o = bySeen m op k (pick (eqb op get or eqb op remove) 0 a) (pick (usesFunction op) f 0) o ≡ bySeen m op k a f o
+  module _ (g : ℕ) (same : usesFunction op ≡ true → g ≡ f) where
+    abbrev Kept-as : Option ℕ → Type 0
+    Kept-as o = bySeen m op k (pick (eqb op get or eqb op remove) 0 a) g o ≡ bySeen m op k a f o
 
-  with-argument : (eqb op get or eqb op remove) ≡ false → (o : Option ℕ) → Kept-as o
-  with-argument e none = rw e refl
-  with-argument e (some v) = rw e (by-test (usesFunction op) (λ u. rw u refl) (λ u. rw (u, or-left (eqb op upsert) (eqb op compute) u, or-right (eqb op upsert) (eqb op compute) u) refl))
+    with-argument : (eqb op get or eqb op remove) ≡ false → (o : Option ℕ) → Kept-as o
+    with-argument e none = rw e refl
+    with-argument e (some v) = rw e (by-test (usesFunction op) (λ u. rw (same u) refl) (λ u. rw (or-left (eqb op upsert) (eqb op compute) u, or-right (eqb op upsert) (eqb op compute) u) refl))
 
-  without : (op ≡ get) ⊎ (op ≡ remove) → (o : Option ℕ) → Kept-as o
-  without (inl e) none = rw e refl
-  without (inl e) (some v) = rw e refl
-  without (inr e) none = rw e refl
-  without (inr e) (some v) = rw e refl
+    without : (op ≡ get) ⊎ (op ≡ remove) → (o : Option ℕ) → Kept-as o
+    without (inl e) none = rw e refl
+    without (inl e) (some v) = rw e refl
+    without (inr e) none = rw e refl
+    without (inr e) (some v) = rw e refl
 
-  -- an argument and a function that the operation doesn't use are of no account
-  kept-numbers : sequential m op k (pick (eqb op get or eqb op remove) 0 a) (pick (usesFunction op) f 0) ≡ sequential m op k a f
-  unfolding sequential
-  kept-numbers = by-test (eqb op get or eqb op remove) (λ e. without (⊎-map (eqb-true op get) (eqb-true op remove) (or-cases _ _ e)) (lookup m k)) (λ e. with-argument e (lookup m k))
+    -- an argument and a function that the operation doesn't use are of no account
+    kept-numbers : sequential m op k (pick (eqb op get or eqb op remove) 0 a) g ≡ sequential m op k a f
+    unfolding sequential
+    kept-numbers = by-test (eqb op get or eqb op remove) (λ e. without (⊎-map (eqb-true op get) (eqb-true op remove) (or-cases _ _ e)) (lookup m k)) (λ e. with-argument e (lookup m k))
 
   pub asked : (t : Task) → Started op k a f t → isScan op ≡ false → sequential m (t .operation) (t .key) (t .argument) (t .function) ≡ sequential m op k a f
-  asked t st ne = rw (st .operation, st .key ne, st .argument, st .function) kept-numbers
+  asked t st ne = rw (st .operation, st .key ne, st .argument) (kept-numbers (t .function) (st .function))
 
 -- a task that shows none looks
 looking : {z : Sizes} {x : Tables} {t : Task} → Gone z x t → (looksIn (t .stage) ≡ true) ⊎ (looksOld (t .stage) ≡ true)
@@ -100,14 +103,14 @@ module _ (z : Sizes) (lim : Limited z) (run : ℕ → Call) (n op k a f j : ℕ)
       pub changes-here : n < z .tasks → DecidesAt z run n (suc i) → mapAt z run (suc (suc i)) ≡ sequential map op k a f .map
       changes-here b d = map-next z run (suc i) ∙ ap (λ (c : Call). mapThen z (tablesAt z run (suc i)) c map) (d .own) ∙ rw (lt-ltb n (z .tasks) b, d .deciding) (ap (λ (y : Effect). y .map) same)
 
-    pub change-here : j < suc i → Started op k a f (taskAt z run (suc i) n) → isScan op ≡ false → DecidesAt z run n (suc i) → ByChange z run n op k a f j (suc i) (changeAnswer op)
+    pub change-here : j < suc i → Started op k a f (taskAt z run (suc i) n) → isScan op ≡ false → DecidesAt z run n (suc i) → ByChange z run n op k a f j (suc i) (changeAnswer (tablesAt z run (suc i)) (taskAt z run (suc i) n))
     change-here since st ne d =
         record {
           at = suc i;
           since = since;
           to = le-refl _;
           decides = d;
-          answers = ap (λ (y : Effect). y .answer) (sym (same st ne)) ∙ beside-changes z lim (run-beside z run (suc i)) n (d .deciding) ∙ ap changeAnswer (st .operation);
+          answers = ap (λ (y : Effect). y .answer) (sym (same st ne)) ∙ beside-changes z lim (run-beside z run (suc i)) n (d .deciding);
         }
 
   -- ---- what is kept, over each call
@@ -117,7 +120,7 @@ module _ (z : Sizes) (lim : Limited z) (run : ℕ → Call) (n op k a f j : ℕ)
   begins-ghost : (i : ℕ) → j ≡ i → (s : Tables) → GhostOf i (started z s op k a f)
   begins-ghost i e s =
       record {
-        started = record { operation = refl; function = refl; argument = refl; key = λ _. refl };
+        started = record { operation = refl; function = λ u. rw u refl; argument = refl; key = λ _. refl };
         decided = inl (first .0, λ x since le _. none x since le);
         stepped = λ l. absurd (blind l);
         seen = λ _ y. absurd (blind (looking y));
@@ -152,11 +155,15 @@ module _ (z : Sizes) (lim : Limited z) (run : ℕ → Call) (n op k a f j : ℕ)
       quiet : DecidesAt z run n (suc i) → ⊥
       quiet d = busy (b .unstepped (d .own))
 
+      -- past its deciding step it answers as before: the value that it replaces stays
+      stays : past t ≡ true → changeAnswer s t ≡ changeAnswer (tablesAt z run (suc (suc i))) t
+      stays is = sym (subst (λ (x : Tables). changeAnswer x t ≡ changeAnswer s t) (sym (tables-next z run (suc i))) (answer-like s (calls z s (run (suc i)) .tables) t t refl refl (λ _. value-stays z lim s (run-reached z run (suc i)) (run (suc i)) n (λ (e : t .stage ≡ 4). false≢true (rw e at is)) (λ (e : t .stage ≡ 5). false≢true (rw e at is)))))
+
       rests-ghost : GhostOf (suc i) t
       rests-ghost =
           record {
             started = g .started;
-            decided = ⊎-map (λ w. (w .0, never-on i (w .1) quiet)) (λ w. (w .0, change-on i (w .1))) (g .decided);
+            decided = ⊎-map (λ w. (w .0, never-on i (w .1) quiet)) (λ w. (w .0, subst (ByChange z run n op k a f j (suc i)) (stays (w .0)) (change-on i (w .1)))) (g .decided);
             stepped = λ l. stepped-later (suc i) (g .stepped l);
             seen = λ ne y. seen-on ne (stepped-later (suc i) (g .stepped (looking y))) (back y);
           }
@@ -184,9 +191,12 @@ module _ (z : Sizes) (lim : Limited z) (run : ℕ → Call) (n op k a f j : ℕ)
       follows : Follows z s n x → Gone z (tablesAt z run (suc (suc i))) (x .task) → Gone z s t ⊎ AbsentIn z (tablesAt z run (suc (suc i))) (t .key)
       follows = subst (λ (y : Tables). (Gone z (stepped z s n x) (x .task) → Gone z s t ⊎ AbsentIn z (stepped z s n x) (t .key)) → Gone z y (x .task) → Gone z s t ⊎ AbsentIn z y (t .key)) (sym then-tables) (λ f. f)
 
+      carries : Carries z s n x → ByChange z run n op k a f j (suc i) (changeAnswer s t) → ByChange z run n op k a f j (suc i) (changeAnswer (tablesAt z run (suc (suc i))) (x .task))
+      carries e = subst (ByChange z run n op k a f j (suc i)) (sym e ∙ ap (λ (y : Tables). changeAnswer y (x .task)) (sym then-tables))
+
       -- what it was started with stays
       onward : Onward t x → Started op k a f (x .task)
-      onward w = record { operation = w .operation ∙ g .started .operation; function = w .function ∙ g .started .function; argument = w .argument ∙ g .started .argument; key = λ ne. w .key (ap isScan (g .started .operation) ∙ ne) ∙ is-key ne }
+      onward w = record { operation = w .operation ∙ g .started .operation; function = λ u. w .function (ap usesFunction (g .started .operation) ∙ u) ∙ g .started .function u; argument = w .argument ∙ g .started .argument; key = λ ne. w .key (ap isScan (g .started .operation) ∙ ne) ∙ is-key ne }
 
       pub undecided : past t ≡ false → NeverDecides z run n j i
       undecided e = ⊎-elim (λ w. w .1) (λ w. absurd (false≢true (sym e ∙ w .0))) (g .decided)
@@ -201,14 +211,14 @@ module _ (z : Sizes) (lim : Limited z) (run : ℕ → Call) (n op k a f j : ℕ)
           go (Goes.on w same d f) =
               record {
                 started = onward w;
-                decided = ⊎-map (λ c. (same ∙ c .0, never-on i (c .1) (decides-not d))) (λ c. (same ∙ c .0, change-on i (c .1))) (g .decided);
+                decided = ⊎-map (λ c. (same .0 ∙ c .0, never-on i (c .1) (decides-not d))) (λ c. (same .0 ∙ c .0, carries (same .1 (c .0)) (change-on i (c .1)))) (g .decided);
                 stepped = λ _. own;
                 seen = λ ne y. seen-on ne own (follows f y);
               }
           go (Goes.turns w was is d u f) =
               record {
                 started = onward w;
-                decided = inr (is, change-here i since (g .started) (unlike u) (record { own = b .call; deciding = d }));
+                decided = inr (is .0, carries (is .1) (change-here i since (g .started) (unlike u) (record { own = b .call; deciding = d })));
                 stepped = λ _. own;
                 seen = λ ne y. seen-on ne own (follows f y);
               }
@@ -234,3 +244,32 @@ module _ (z : Sizes) (lim : Limited z) (run : ℕ → Call) (n op k a f j : ℕ)
       go (Came.begins e b) before = fresh-ghost (suc i) e b
       go (Came.steps v b) before = let row = row-next z run lim n (suc i) ∙ b .row in subst (GhostOf (suc i)) (sym row) (steps-ghost i (v .before) (before v) b (λ q. at-work (ap (λ (t : Task). t .stage) row ∙ q)))
       go (Came.rests v b) before = subst (GhostOf (suc i)) (sym (row-next z run lim n (suc i) ∙ b .row)) (rests-ghost i (v .before) (before v) b (v .on (suc i) (v .before) (le-refl _)))
+
+  -- ---- removed-value
+  pub removed-value : op ≡ remove → (i : ℕ) → Working z run n op k a f j (suc i) → 16 ≤ taskAt z run (suc i) n .stage → taskAt z run (suc i) n .stage ≤ 21 → RemovedValue z run n k j (suc i)
+  removed-value is-remove i w from to = go (g .decided)
+    where
+      s : Tables
+      s = tablesAt z run (suc i)
+
+      t : Task
+      t = taskAt z run (suc i) n
+
+      g : GhostOf i t
+      g = ghost i w
+
+      is-past : past t ≡ true
+      is-past = rw (le-leb 16 (t .stage) from, le-leb (t .stage) 21 to) refl
+
+      replacing : replaces (t .stage) ≡ true
+      replacing = picked (λ (b : Bool). b ≡ true) (eqb (t .stage) 5) (λ _. refl) (λ _. le-leb 16 (t .stage) from)
+
+      answer : changeAnswer s t ≡ report.Value (value s (t .old))
+      answer = rw (g .started .operation, is-remove, replacing) refl
+
+      go : ((past t ≡ false) × NeverDecides z run n j i) ⊎ ((past t ≡ true) × ByChange z run n op k a f j i (changeAnswer s t)) → RemovedValue z run n k j (suc i)
+      go (inl c) = absurd (false≢true (sym (c .0) ∙ is-past))
+      go (inr c) = record { at = d .at; since = d .since; before = omega (arith, d .to); decides = d .decides; stands = removed-found (mapAt z run (d .at)) k a f (value s (t .old)) (ap (λ (o : ℕ). sequential (mapAt z run (d .at)) o k a f .answer) (sym is-remove) ∙ d .answers ∙ answer) }
+        where
+          d : ByChange z run n op k a f j i (changeAnswer s t)
+          d = c .1

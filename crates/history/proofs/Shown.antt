@@ -5,10 +5,10 @@ use mathlib.Core.Logic.{_⊎_, inl, inr, ⊎-elim, ⊎-map, _≢_}
 use mathlib.Core.Bool.{true, false≢true}
 use mathlib.Core.List.{List, List·Memᴰ}
 use mathlib.Core.Option.{Option, none, some, Option·none-ne-some}
-use native.Mathlib.Decide.{ℕ-discrete}
+use native.Mathlib.Decide.{ℕ-discrete, decLt}
 use native.Mathlib.Omega.{arith}
 use lib.Dec.{eqb, ltb, leb}
-use lib.ListN.{length, getD, set, take, drop}
+use lib.ListN.{length, getD, set, take, drop, List·getD-eq-default}
 use borrow.Author.Tests.{ne-eqb, eqb-true, ltb-true}
 use Rattle.rules.specs.declared.Sizes.{Sizes}
 use Rattle.rules.specs.declared.Directory.{Directory}
@@ -17,7 +17,7 @@ use Rattle.rules.specs.declared.Entry.{Entry}
 use Rattle.rules.specs.declared.ChunkNo.{ChunkNo}
 use Rattle.rules.specs.declared.EntryNo.{EntryNo}
 use Rattle.rules.specs.Words.{pick, noChunk, _and_, _or_, live, retired, usesFunction, scanDown, isScan, idle, toDrain, toCopy, toSwap, toRelease}
-use Rattle.rules.specs.Tables.{Tables, emptyChunk, withTasks, withDirectory, withEntries, chunkAt, chunk, putChunk, entryAt, entry, mark, task}
+use Rattle.rules.specs.Tables.{Tables, emptyChunk, withTasks, withDirectory, withEntries, chunkAt, chunk, putChunk, entryAt, entry, value, mark, task}
 use Rattle.rules.specs.Walks.{linked, InRange}
 use Rattle.rules.specs.Stages
 use Rattle.rules.specs.Rebalance.{Outcome, unusedCount, unusedFrom, publishedOn, heldChunk, namingFrom, at, clears, copies, releases, rebalanceDoes}
@@ -37,12 +37,13 @@ use Rattle.facts.proofs.SwapIn.{swap-by}
 use Rattle.facts.proofs.Making.{newRow}
 use Rattle.facts.proofs.Reaching.{reached-kept}
 use Rattle.holds.proofs.Shaped.{calls-does}
+use Rattle.handles.proofs.Handing.{rebalance-tasks, begin-tasks}
 use Rattle.handles.proofs.Keys.{reached-owned}
 use Rattle.holds.proofs.Holding.{reached-held}
 use Rattle.holds.proofs.Marks.{reached-marked}
 use Rattle.holds.proofs.Unlinked.{reached-unlinked}
 use Rattle.simulation.specs.Named.{presentAt, NamedIn, LiveNamed, PresentBy}
-use Rattle.simulation.proofs.Rows.{RowKept, frame}
+use Rattle.simulation.proofs.Rows.{RowKept, frame, deleted-same}
 use Rattle.simulation.proofs.Keeping.{reached-copied, kept-to}
 use Rattle.simulation.proofs.Moving.{begin-moves, rebalance-moves}
 use Rattle.simulation.proofs.Living.{under, s′, allowed, acts, same-status, live-on, reached-lively}
@@ -150,6 +151,21 @@ module _ (z : Sizes) (lim : Limited z) (s : Tables) (r : Reached z s) where
     call-live : (c : Call) → LiveIn (calls z s c .tables)
     call-live c = subst (λ (o : Outcome). LiveIn (o .tables)) (sym (calls-does z lim s r c)) (does-live c)
 
+  -- the value in a deleted handle that task n holds stays
+  module _ (n : ℕ) (d : mark s (task s n .old) ≡ 1) where
+    abbrev ValueIn : Tables → Type 0
+    ValueIn x = value x (task s n .old) ≡ value s (task s n .old)
+
+    does-value : (c : Call) → ValueIn (does z s c .tables)
+    unfolding does
+    does-value (start m op k a f) = start-by ValueIn refl (λ _. refl) m op k a f
+    does-value (step m) = step-by ValueIn refl m (deleted-same z lim s k₀ (set (s .tasks) m (Stages.decide z s m (task s m) .task)) _ m (reached-owned z lim r) (acts z lim s k₀ m) n d)
+    does-value (begin k) = ap (λ (l : List ℕ). getD l (task s n .old .0) 0) (begin-tasks z s k .1)
+    does-value rebalance = ap (λ (l : List ℕ). getD l (task s n .old .0) 0) (rebalance-tasks z s .1)
+
+    call-value : (c : Call) → ValueIn (calls z s c .tables)
+    call-value c = subst (λ (o : Outcome). ValueIn (o .tables)) (sym (calls-does z lim s r c)) (does-value c)
+
   -- a retired chunk names what it named
   module _ (f : ChunkNo) (b : f .0 < z .chunks) (h k : ℕ) (i : h < z .handles) (v : NamedIn z (s .entries) f h k) where
     abbrev Stays : Tables → Type 0
@@ -235,6 +251,14 @@ module _ (z : Sizes) (lim : Limited z) (s : Tables) (r : Reached z s) where
 
     old-back : t .old .0 < z .handles → mark s₁ (t .old) ≢ 0 → (mark s (t .old) ≢ 0) ⊎ AbsentIn z s₁ (t .key)
     old-back i d = elim (ℕ-discrete (mark s (t .old)) 0) [ yes e ↦ inr (deleted (t .old .0) (t .key) i e (reached-lively z lim r .old-live n i e) d) | no ne ↦ inl ne ]
+
+    -- the value in an old handle that is held past 4 and 5 stays
+    pub value-stays : t .stage ≢ 4 → t .stage ≢ 5 → value s₁ (t .old) ≡ value s (t .old)
+    value-stays past-4 past-5 =
+        elim (decLt (t .old .0) (z .handles)) [
+          | yes i ↦ call-value n (reached-marked z lim r .old-deleted n past-4 past-5 i) c
+          | no out ↦ List·getD-eq-default (s₁ .values) 0 {n = t .old .0} (rw (k₁ .values-sized) (omega (arith, out))) ∙ sym (List·getD-eq-default (s .values) 0 {n = t .old .0} (rw (k₀ .values-sized) (omega (arith, out))))
+        ]
 
     -- what a retired chunk showed it shows, unless the key is absent now
     shown-on : (f : ChunkNo) (k : ℕ) → f .0 < z .chunks → chunk s₁ f .status ≡ retired → ShownBy z s f k → ShownBy z s₁ f k ⊎ AbsentIn z s₁ k

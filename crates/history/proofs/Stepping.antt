@@ -19,7 +19,7 @@ use Rattle.rules.specs.declared.Write.the-variants as write
 use Rattle.rules.specs.declared.Report.{Report}
 use Rattle.rules.specs.declared.Report.the-variants as report
 use Rattle.rules.specs.Words.{pick, _and_, _or_, noEntry, noHandle, get, put, putIfAbsent, upsert, compute, remove, isScan, inserts}
-use Rattle.rules.specs.Tables.{Tables, chunk, entry, mark, task}
+use Rattle.rules.specs.Tables.{Tables, chunk, entry, value, mark, task}
 use Rattle.rules.specs.Walks.{locate, find, lowestFree, firstPresent, undeleted}
 use Rattle.rules.specs.Stages
 use Rattle.rules.specs.Map.{Pair, effect, onAbsent}
@@ -29,7 +29,7 @@ use Rattle.statements.specs.Sound.{Limited}
 use Rattle.facts.specs.Facts.{Holds, holdAt, EntryHeld, Kept}
 use Rattle.facts.specs.Reached.{Reached}
 use Rattle.statements.specs.Runs.{decides}
-use Rattle.simulation.specs.Beside.{changeAnswer}
+use Rattle.simulation.specs.Beside.{replaces, changeAnswer}
 use Rattle.facts.proofs.Numbers.{holding}
 use Rattle.facts.proofs.Operations.{fits-test, throughout, implies}
 use Rattle.rules.specs.Shape.{fitsOperation}
@@ -40,16 +40,20 @@ use Rattle.holds.proofs.Marks.{reached-marked}
 use Rattle.holds.proofs.Unlinked.{reached-unlinked}
 use Rattle.simulation.specs.Named.{PresentBy}
 use Rattle.rules.specs.Told.{isAnswer}
-use Rattle.history.specs.Goes.{past, looksIn, looksOld, ShownBy, Gone, ending, Onward, stepped, Follows, Ends, Goes}
+use Rattle.history.specs.Goes.{past, looksIn, looksOld, ShownBy, Gone, ending, Onward, stepped, Follows, Carries, Ends, Goes}
 use Rattle.history.proofs.Shown.{live-absent, entry-named}
 
 -- the operation goes on at a stage, with these holds, a write and a report
 abbrev goesBy : Task → ℕ → ChunkNo → EntryNo → HandleNo → HandleNo → ℕ → ℕ → Write → Report → Decision
 goesBy t m c e o h p w wr rep = record { task = Stages.goesTo t m c e o h p w; write = wr; report = rep }
 
+-- two rows of one operation answer their change alike where both replace a value, the same, or both none
+pub answer-like : (s s₁ : Tables) (t t₁ : Task) → t₁ .operation ≡ t .operation → replaces (t₁ .stage) ≡ replaces (t .stage) → (replaces (t .stage) ≡ true → value s₁ (t₁ .old) ≡ value s (t .old)) → changeAnswer s₁ t₁ ≡ changeAnswer s t
+answer-like s s₁ t t₁ same at v = rw (same, at) (by-test (replaces (t .stage)) (λ q. rw (q, v q) refl) (λ q. rw q refl))
+
 -- get, compute and remove answer on an absent key as they do where they have seen none
-absent-answer : (op k a f : ℕ) → inserts op ≡ false → (m : List Pair) → onAbsent m op k a f ≡ effect (pick (eqb op get) report.Absent report.False) m
-absent-answer op k a f none-in m = by-test (eqb op get) (λ g. rw g refl) (λ g. rw (g, other put refl, other putIfAbsent refl, other upsert refl) refl)
+absent-answer : (op k a f : ℕ) → inserts op ≡ false → (m : List Pair) → onAbsent m op k a f ≡ effect (pick (eqb op compute) report.False report.Absent) m
+absent-answer op k a f none-in m = rw (other put refl, other putIfAbsent refl, other upsert refl) (by-test (eqb op compute) (λ c. rw c refl) (λ c. rw c refl))
   where
     other : (n : ℕ) → inserts n ≡ true → eqb op n ≡ false
     other n yes-in = ne-eqb op n (λ e. false≢true (sym none-in ∙ ap inserts e ∙ yes-in))
@@ -96,23 +100,35 @@ module _ (z : Sizes) (lim : Limited z) (s : Tables) (r : Reached z s) (n : ℕ) 
   nowhere x q (Gone.chunk i _) = absurd (false≢true (sym (or-left (looksIn (x .task .stage)) (looksOld (x .task .stage)) q) ∙ i))
   nowhere x q (Gone.old i _) = absurd (false≢true (sym (or-right (looksIn (x .task .stage)) (looksOld (x .task .stage)) q) ∙ i))
 
+  -- it holds the same handle, whose value stays, at a stage that replaces as stage k does
+  abbrev HoldsOn : ℕ → Decision → Type 0
+  HoldsOn k x = (replaces (x .task .stage) ≡ replaces k) × (x .task .operation ≡ t .operation) × (x .task .old ≡ t .old) × (stepped z s n x .values ≡ s .values)
+
+  carried : (k : ℕ) (x : Decision) → t .stage ≡ k → HoldsOn k x → Carries z s n x
+  carried k x e (q, op, old, values) = answer-like s (stepped z s n x) t (x .task) op (q ∙ sym (ap replaces e)) (λ _. ap (λ (l : List ℕ). getD l (x .task .old .0) 0) values ∙ ap (λ (h : HandleNo). value s h) old)
+
   module _ {m : ℕ} {c : ChunkNo} {e : EntryNo} {o h : HandleNo} {p w : ℕ} {wr : Write} {rep : Report} where
     onward : eqb m 0 ≡ false → ending rep ≡ false → Onward t (goesBy t m c e o h p w wr rep)
-    onward ne quiet = record { operation = refl; function = refl; argument = refl; key = λ _. refl; busy = eqb-false m 0 ne; quiet = quiet }
+    onward ne quiet = record { operation = refl; function = λ _. refl; argument = refl; key = λ _. refl; busy = eqb-false m 0 ne; quiet = quiet }
 
-    goes : {b : Bool} → Stands b → past (Stages.goesTo t m c e o h p w) ≡ b → eqb m 0 ≡ false → ending rep ≡ false → Follows z s n (goesBy t m c e o h p w wr rep) → By (goesBy t m c e o h p w wr rep)
-    goes st q ne quiet f = Goes.on (onward ne quiet) (q ∙ sym (st .0)) (st .1) f
+    -- where it has not decided
+    goes : Stands false → past (Stages.goesTo t m c e o h p w) ≡ false → eqb m 0 ≡ false → ending rep ≡ false → Follows z s n (goesBy t m c e o h p w wr rep) → By (goesBy t m c e o h p w wr rep)
+    goes st q ne quiet f = Goes.on (onward ne quiet) (q ∙ sym (st .0), λ is. absurd (false≢true (sym (st .0) ∙ is))) (st .1) f
 
     -- to a stage that looks at nothing
-    away : {b : Bool} → Stands b → past (Stages.goesTo t m c e o h p w) ≡ b → (eqb m 0 or (looksIn m or looksOld m)) ≡ false → ending rep ≡ false → By (goesBy t m c e o h p w wr rep)
+    away : Stands false → past (Stages.goesTo t m c e o h p w) ≡ false → (eqb m 0 or (looksIn m or looksOld m)) ≡ false → ending rep ≡ false → By (goesBy t m c e o h p w wr rep)
     away st q ne quiet = goes st q (or-left (eqb m 0) (looksIn m or looksOld m) ne) quiet (nowhere (goesBy t m c e o h p w wr rep) (or-right (eqb m 0) (looksIn m or looksOld m) ne))
 
     -- to one past the deciding step
-    turning : past t ≡ false → past (Stages.goesTo t m c e o h p w) ≡ true → decides z s t ≡ true → isScan (t .operation) ≡ false → (eqb m 0 or (looksIn m or looksOld m)) ≡ false → ending rep ≡ false → By (goesBy t m c e o h p w wr rep)
-    turning was is d u ne quiet = Goes.turns (onward (or-left (eqb m 0) (looksIn m or looksOld m) ne) quiet) was is d u (nowhere (goesBy t m c e o h p w wr rep) (or-right (eqb m 0) (looksIn m or looksOld m) ne))
+    turning : {k : ℕ} → t .stage ≡ k → HoldsOn k (goesBy t m c e o h p w wr rep) → past t ≡ false → past (Stages.goesTo t m c e o h p w) ≡ true → decides z s t ≡ true → isScan (t .operation) ≡ false → (eqb m 0 or (looksIn m or looksOld m)) ≡ false → ending rep ≡ false → By (goesBy t m c e o h p w wr rep)
+    turning at hold was is d u ne quiet = Goes.turns (onward (or-left (eqb m 0) (looksIn m or looksOld m) ne) quiet) was (is, carried _ (goesBy t m c e o h p w wr rep) at hold) d u (nowhere (goesBy t m c e o h p w wr rep) (or-right (eqb m 0) (looksIn m or looksOld m) ne))
+
+    -- from one past it to another
+    along : {k : ℕ} → t .stage ≡ k → HoldsOn k (goesBy t m c e o h p w wr rep) → Stands true → past (Stages.goesTo t m c e o h p w) ≡ true → (eqb m 0 or (looksIn m or looksOld m)) ≡ false → ending rep ≡ false → By (goesBy t m c e o h p w wr rep)
+    along at hold st q ne quiet = Goes.on (onward (or-left (eqb m 0) (looksIn m or looksOld m) ne) quiet) (q ∙ sym (st .0), λ _. carried _ (goesBy t m c e o h p w wr rep) at hold) (st .1) (nowhere (goesBy t m c e o h p w wr rep) (or-right (eqb m 0) (looksIn m or looksOld m) ne))
 
     -- with the same handle in hand
-    still : {b : Bool} → Stands b → past (Stages.goesTo t m c e o h p w) ≡ b → (eqb m 0 or looksIn m) ≡ false → ending rep ≡ false → looksOld (t .stage) ≡ true → o ≡ t .old → stepped z s n (goesBy t m c e o h p w wr rep) .marks ≡ s .marks → By (goesBy t m c e o h p w wr rep)
+    still : Stands false → past (Stages.goesTo t m c e o h p w) ≡ false → (eqb m 0 or looksIn m) ≡ false → ending rep ≡ false → looksOld (t .stage) ≡ true → o ≡ t .old → stepped z s n (goesBy t m c e o h p w wr rep) .marks ≡ s .marks → By (goesBy t m c e o h p w wr rep)
     still st q ne quiet was same marks = goes st q (or-left (eqb m 0) (looksIn m) ne) quiet seen
       where
         seen : Follows z s n (goesBy t m c e o h p w wr rep)
@@ -123,7 +139,7 @@ module _ (z : Sizes) (lim : Limited z) (s : Tables) (r : Reached z s) (n : ℕ) 
   restarts st why quiet = away st refl refl quiet
 
   ends-absent : Stands false → Gone z s t → inserts (t .operation) ≡ false → By (Stages.finishesAbsent t)
-  ends-absent st g none-in = Goes.answers refl (picked (λ (v : Report). isAnswer v ≡ true) (eqb (t .operation) get) (λ _. refl) (λ _. refl)) (Ends.absent (st .0) (st .1) g (absent-answer (t .operation) (t .key) (t .argument) (t .function) none-in))
+  ends-absent st g none-in = Goes.answers refl (picked (λ (v : Report). isAnswer v ≡ true) (eqb (t .operation) compute) (λ _. refl) (λ _. refl)) (Ends.absent (st .0) (st .1) g (absent-answer (t .operation) (t .key) (t .argument) (t .function) none-in))
 
   -- ---- 1 and 16
   -- a task's own record put among the others leaves what is shown and what is present
@@ -139,7 +155,7 @@ module _ (z : Sizes) (lim : Limited z) (s : Tables) (r : Reached z s) (n : ℕ) 
       found : Follows z s n (Stages.moves (Stages.goesTo t 2 (locate z s (t .key)) noEntry (t .old) noHandle 0 0) write.Nothing)
       found (Gone.chunk q gone) = inr (λ v p. live-absent z lim s r (locate z s (t .key)) (t .key) (covers z lim s kept (t .key) .0) (covers z lim s kept (t .key) .1) (λ y. gone (shown-put _ y)) v (present-put _ p))
       found (Gone.old q d) = absurd (false≢true q)
-  locates-goes (inr e) = rw e (away (stands 16 e refl refl) refl refl refl)
+  locates-goes (inr e) = rw e (along e (refl, refl, refl, refl) (stands 16 e refl refl) refl refl refl)
 
   -- ---- 2 and 3
   module _ (e : t .stage ≡ 2) where
@@ -199,14 +215,14 @@ module _ (z : Sizes) (lim : Limited z) (s : Tables) (r : Reached z s) (n : ℕ) 
     unscanned = not-true _ (passes 5 (λ op. not (isScan op)) refl e (omega arith))
 
     -- the operations that reach 5 and are neither put nor remove
-    answers-five : eqb (t .operation) remove ≡ false → eqb (t .operation) put ≡ false → pick (eqb (t .operation) compute) report.True report.Done ≡ changeAnswer (t .operation)
+    answers-five : eqb (t .operation) remove ≡ false → eqb (t .operation) put ≡ false → pick (eqb (t .operation) compute) report.True report.Done ≡ changeAnswer s t
     answers-five nr np = ⊎-elim (λ q. ⊎-elim (λ i. absurd (false≢true (sym np ∙ i))) (λ i. absurd (false≢true (sym nr ∙ i))) (or-cases _ _ q)) (λ q. ⊎-elim (λ i. rw (eqb-true (t .operation) upsert i) refl) (λ i. rw (eqb-true (t .operation) compute i) refl) (or-cases _ _ q)) (or-cases _ _ (passes 5 (λ op. (eqb op put or eqb op remove) or (eqb op upsert or eqb op compute)) refl e (omega arith)))
 
     applies-goes : By (Stages.applies z s t)
     applies-goes =
         picked By (eqb (mark s (t .old)) 0)
-        (λ d. picked By (eqb (t .operation) remove) (λ q. turning early refl (rw (e, d) refl) unscanned refl refl)
-        (λ nr. picked By (eqb (t .operation) put) (λ q. Goes.answers refl refl (Ends.changes early (rw (e, d) refl) unscanned (rw (eqb-true (t .operation) put q) refl))) (λ np. Goes.answers refl (picked (λ (v : Report). isAnswer v ≡ true) (eqb (t .operation) compute) (λ _. refl) (λ _. refl)) (Ends.changes early (rw (e, d) refl) unscanned (answers-five nr np)))))
+        (λ d. picked By (eqb (t .operation) remove) (λ q. turning e (refl, refl, refl, refl) early refl (rw (e, d) refl) unscanned refl refl)
+        (λ nr. picked By (eqb (t .operation) put) (λ q. Goes.answers refl refl (Ends.changes early (rw (e, d) refl) unscanned (rw (e, eqb-true (t .operation) put q) refl))) (λ np. Goes.answers refl (picked (λ (v : Report). isAnswer v ≡ true) (eqb (t .operation) compute) (λ _. refl) (λ _. refl)) (Ends.changes early (rw (e, d) refl) unscanned (answers-five nr np)))))
         (λ d. picked By (inserts (t .operation)) (λ _. restarts (early, rw (e, d) refl) report.Lost refl) (λ _. still (early, rw (e, d) refl) refl refl refl (rw e refl) refl refl))
       where
         early : past t ≡ false
@@ -230,11 +246,11 @@ module _ (z : Sizes) (lim : Limited z) (s : Tables) (r : Reached z s) (n : ℕ) 
   publishes-goes : (t .stage ≡ 10) ⊎ ((t .stage ≡ 13) ⊎ (t .stage ≡ 19)) → By (Stages.publishes z s t)
   publishes-goes (inl e) = let st = stands 10 e refl refl in rw e (picked By (Stages.mayPublish z s t) (λ _. away st refl refl refl) (λ _. restarts st report.Frozen refl))
   publishes-goes (inr (inl e)) = let st = stands 13 e refl refl in rw e (picked By (Stages.mayPublish z s t) (λ _. still st refl refl refl (rw e refl) refl refl) (λ _. restarts st report.Frozen refl))
-  publishes-goes (inr (inr e)) = let st = stands 19 e refl refl in rw e (picked By (Stages.mayPublish z s t) (λ _. away st refl refl refl) (λ _. away st refl refl refl))
+  publishes-goes (inr (inr e)) = let st = stands 19 e refl refl in rw e (picked By (Stages.mayPublish z s t) (λ _. along e (refl, refl, refl, refl) st refl refl refl) (λ _. along e (refl, refl, refl, refl) st refl refl refl))
 
   -- ---- 11, 14 and 20
   swaps-goes : t .stage ≡ 11 → By (Stages.swaps z s t (t .new))
-  swaps-goes e = rw e (picked By (Stages.stillNames z s t) (λ i. turning early refl (rw (e, i) refl) unscanned refl refl) (λ i. away (early, rw (e, i) refl) (rw not-yet refl) refl refl))
+  swaps-goes e = rw e (picked By (Stages.stillNames z s t) (λ i. turning e (refl, refl, refl, refl) early refl (rw (e, i) refl) unscanned refl refl) (λ i. away (early, rw (e, i) refl) (rw not-yet refl) refl refl))
     where
       early : past t ≡ false
       early = rw e refl
@@ -247,22 +263,28 @@ module _ (z : Sizes) (lim : Limited z) (s : Tables) (r : Reached z s) (n : ℕ) 
 
   clears-goes : (t .stage ≡ 14) ⊎ (t .stage ≡ 20) → By (Stages.swaps z s t noHandle)
   clears-goes (inl e) = let st = stands 14 e refl refl in rw e (picked By (Stages.stillNames z s t) (λ _. still st refl refl refl (rw e refl) refl refl) (λ _. still st refl refl refl (rw e refl) refl refl))
-  clears-goes (inr e) = let st = stands 20 e refl refl in rw e (picked By (Stages.stillNames z s t) (λ _. away st refl refl refl) (λ _. away st refl refl refl))
+  clears-goes (inr e) = let st = stands 20 e refl refl in rw e (picked By (Stages.stillNames z s t) (λ _. along e (refl, refl, refl, refl) st refl refl refl) (λ _. along e (refl, refl, refl, refl) st refl refl refl))
 
   -- ---- 12 and 15
   -- an insertion whose swap failed has not decided
   undecided-goes : t .stage ≡ 12 → Stages.swapFailed z s t ≡ true → By (Stages.restarts t report.Lost)
   undecided-goes e i = restarts (rw (e, eqb-true (t .swapped) 0 i) refl, rw e refl) report.Lost refl
 
-  -- one whose swap succeeded has
-  decided-goes : t .stage ≡ 12 → Stages.swapFailed z s t ≡ false → By (Stages.finishes write.Nothing (pick (eqb (t .operation) putIfAbsent) report.True report.Done))
-  decided-goes e i = Goes.answers refl (picked (λ (v : Report). isAnswer v ≡ true) (eqb (t .operation) putIfAbsent) (λ _. refl) (λ _. refl)) (Ends.tells (rw (e, swapped (eqb-false _ _ i)) refl) (rw e refl) answer)
+  -- one whose swap succeeded has, and replaced nothing
+  abbrev inserted : Report
+  inserted = pick (eqb (t .operation) put) report.Absent (pick (eqb (t .operation) putIfAbsent) report.True report.Done)
+
+  decided-goes : t .stage ≡ 12 → Stages.swapFailed z s t ≡ false → By (Stages.finishes write.Nothing inserted)
+  decided-goes e i = Goes.answers refl (picked IsAnswer (eqb (t .operation) put) (λ _. refl) (λ _. picked IsAnswer (eqb (t .operation) putIfAbsent) (λ _. refl) (λ _. refl))) (Ends.tells (rw (e, swapped (eqb-false _ _ i)) refl) (rw e refl) answer)
     where
       swapped : t .swapped ≢ 0 → t .swapped ≡ 1
       swapped ne = omega (arith, ne, leb-true (t .swapped) 1 (holds-at 12 e (omega arith) .swapped))
 
-      answer : pick (eqb (t .operation) putIfAbsent) report.True report.Done ≡ changeAnswer (t .operation)
-      answer = ⊎-elim (λ i. rw (eqb-true (t .operation) put i) refl) (λ q. ⊎-elim (λ i. rw (eqb-true (t .operation) putIfAbsent i) refl) (λ i. rw (eqb-true (t .operation) upsert i) refl) (or-cases _ _ q)) (or-cases _ _ (passes 12 (λ op. eqb op put or (eqb op putIfAbsent or eqb op upsert)) refl e (omega arith)))
+      IsAnswer : Report → Type 0
+      IsAnswer v = isAnswer v ≡ true
+
+      answer : inserted ≡ changeAnswer s t
+      answer = ⊎-elim (λ i. rw (e, eqb-true (t .operation) put i) refl) (λ q. ⊎-elim (λ i. rw (eqb-true (t .operation) putIfAbsent i) refl) (λ i. rw (eqb-true (t .operation) upsert i) refl) (or-cases _ _ q)) (or-cases _ _ (passes 12 (λ op. eqb op put or (eqb op putIfAbsent or eqb op upsert)) refl e (omega arith)))
 
   ends-absent-goes : t .stage ≡ 15 → By (Stages.endsAbsent z s t)
   ends-absent-goes e = let st = stands 15 e refl refl in picked By (Stages.swapFailed z s t) (λ _. restarts st report.Lost refl) (λ _. ends-absent st (Gone.old (rw e refl) deleted) no-insertion)
@@ -274,15 +296,15 @@ module _ (z : Sizes) (lim : Limited z) (s : Tables) (r : Reached z s) (n : ℕ) 
       no-insertion = ⊎-elim (λ i. rw (eqb-true (t .operation) compute i) refl) (λ i. rw (eqb-true (t .operation) remove i) refl) (or-cases _ _ (passes 15 (λ op. eqb op compute or eqb op remove) refl e (omega arith)))
 
   -- ---- 17, 18 and 21
-  -- a remove that has set its mark answers true
-  removed : (m : ℕ) → t .stage ≡ m → throughout 9 (λ op. implies (fitsOperation op m) (eqb op remove)) ≡ true → m ≢ 0 → Stands true → By (Stages.finishes write.Nothing report.True)
-  removed m e all ne st = Goes.answers refl refl (Ends.tells (st .0) (st .1) (rw (eqb-true (t .operation) remove (passes m (λ op. eqb op remove) all e ne)) refl))
+  -- a remove that has set its mark answers the value that still stands in its handle
+  removed : (m : ℕ) → t .stage ≡ m → throughout 9 (λ op. implies (fitsOperation op m) (eqb op remove)) ≡ true → m ≢ 0 → Stands true → (v : ℕ) → (t .operation ≡ remove → report.Value v ≡ changeAnswer s t) → By (Stages.finishes write.Nothing (report.Value v))
+  removed m e all ne st v right = Goes.answers refl refl (Ends.tells (st .0) (st .1) (right (eqb-true (t .operation) remove (passes m (λ op. eqb op remove) all e ne))))
 
   finds-again-goes : t .stage ≡ 17 → By (Stages.findsAgain z s t)
-  finds-again-goes e = let st = stands 17 e refl refl in picked By (Stages.hasKey z s t) (λ _. away st refl refl refl) (λ _. removed 17 e refl (omega arith) st)
+  finds-again-goes e = let st = stands 17 e refl refl in picked By (Stages.hasKey z s t) (λ _. along e (refl, refl, refl, refl) st refl refl refl) (λ _. removed 17 e refl (omega arith) st _ (λ op. rw (e, op) refl))
 
   reads-again-goes : t .stage ≡ 18 → By (Stages.readsAgain z s t)
-  reads-again-goes e = let st = stands 18 e refl refl in picked By (eqb (entry z s (t .chunk) (t .entry) .handle .0) (t .old .0)) (λ _. away st refl refl refl) (λ _. removed 18 e refl (omega arith) st)
+  reads-again-goes e = let st = stands 18 e refl refl in picked By (eqb (entry z s (t .chunk) (t .entry) .handle .0) (t .old .0)) (λ _. along e (refl, refl, refl, refl) st refl refl refl) (λ _. removed 18 e refl (omega arith) st _ (λ op. rw (e, op) refl))
 
   -- ---- 22
   scans-goes : t .stage ≡ 22 → By (Stages.scans z s t)
@@ -298,7 +320,7 @@ module _ (z : Sizes) (lim : Limited z) (s : Tables) (r : Reached z s) (n : ℕ) 
       is-scan = passes 22 isScan refl e (omega arith)
 
       on-from : (k : ℕ) (rep : Report) → ending rep ≡ false → By (record { task = Stages.cursorAt t k; write = write.Nothing; report = rep })
-      on-from k rep quiet = Goes.on (record { operation = refl; function = refl; argument = refl; key = λ ne. absurd (false≢true (sym ne ∙ is-scan)); busy = λ q. omega (arith, e, q); quiet = quiet }) refl (st .1) (nowhere (record { task = Stages.cursorAt t k; write = write.Nothing; report = rep }) (rw e refl))
+      on-from k rep quiet = Goes.on (record { operation = refl; function = λ _. refl; argument = refl; key = λ ne. absurd (false≢true (sym ne ∙ is-scan)); busy = λ q. omega (arith, e, q); quiet = quiet }) (refl, λ is. absurd (false≢true (sym (st .0) ∙ is))) (st .1) (nowhere (record { task = Stages.cursorAt t k; write = write.Nothing; report = rep }) (rw e refl))
 
   -- ---- 23
   scans-down-goes : t .stage ≡ 23 → By (Stages.scansDown z s t n)
@@ -311,11 +333,11 @@ module _ (z : Sizes) (lim : Limited z) (s : Tables) (r : Reached z s) (n : ℕ) 
       st = stands 23 e refl refl
 
       stay : (rep : Report) → ending rep ≡ false → By (record { task = t; write = write.Nothing; report = rep })
-      stay rep quiet = Goes.on (record { operation = refl; function = refl; argument = refl; key = λ _. refl; busy = λ q. omega (arith, e, q); quiet = quiet }) refl (st .1) (nowhere (record { task = t; write = write.Nothing; report = rep }) (rw e refl))
+      stay rep quiet = Goes.on (record { operation = refl; function = λ _. refl; argument = refl; key = λ _. refl; busy = λ q. omega (arith, e, q); quiet = quiet }) (refl, λ is. absurd (false≢true (sym (st .0) ∙ is))) (st .1) (nowhere (record { task = t; write = write.Nothing; report = rep }) (rw e refl))
 
   -- ---- a number that is no stage
   stays-goes : t .stage ≢ 0 → decides z s t ≡ false → By (Stages.stays z s t)
-  stays-goes busy u = Goes.on (record { operation = refl; function = refl; argument = refl; key = λ _. refl; busy = busy; quiet = refl }) refl u same
+  stays-goes busy u = Goes.on (record { operation = refl; function = λ _. refl; argument = refl; key = λ _. refl; busy = busy; quiet = refl }) (refl, λ _. refl) u same
     where
       same : Follows z s n (Stages.stays z s t)
       same (Gone.chunk q gone) = inl (Gone.chunk q (λ v. gone (shown-put t v)))
@@ -340,7 +362,7 @@ module _ (z : Sizes) (lim : Limited z) (s : Tables) (r : Reached z s) (n : ℕ) 
         endsAbsent = ends-absent-goes;
         findsAgain = finds-again-goes;
         readsAgain = reads-again-goes;
-        endsRemove = λ e. removed 21 e refl (omega arith) (stands 21 e refl refl);
+        endsRemove = λ e. removed 21 e refl (omega arith) (stands 21 e refl refl) _ (λ op. rw (e, op) refl);
         scans = scans-goes;
         scansDown = scans-down-goes;
         stays = λ none. stays-goes busy (rw (none 11 refl, none 5 refl) refl);

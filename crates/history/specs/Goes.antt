@@ -12,7 +12,7 @@ use Rattle.rules.specs.declared.ChunkNo.{ChunkNo}
 use Rattle.rules.specs.declared.Decision.{Decision}
 use Rattle.rules.specs.declared.Report.{Report}
 use Rattle.rules.specs.declared.Report.the-variants as report
-use Rattle.rules.specs.Words.{_and_, _or_, isScan}
+use Rattle.rules.specs.Words.{_and_, _or_, isScan, usesFunction}
 use Rattle.rules.specs.Told.{told, isAnswer}
 use Rattle.rules.specs.Tables.{Tables, task, mark, value}
 use Rattle.rules.specs.Stages.{putOwn, apply}
@@ -57,7 +57,7 @@ ending r = isAnswer r or (eqb (told r .number) 0 and eqb (told r .first) 9)
 -- the operation goes on: what it was started with stays
 pub record Onward (t : Task) (x : Decision) : Type 0 where
   pub operation : x .task .operation ≡ t .operation
-  pub function : x .task .function ≡ t .function
+  pub function : usesFunction (t .operation) ≡ true → x .task .function ≡ t .function
   pub argument : x .task .argument ≡ t .argument
   pub key : isScan (t .operation) ≡ false → x .task .key ≡ t .key
   pub busy : x .task .stage ≢ 0
@@ -74,12 +74,16 @@ module _ (z : Sizes) (s : Tables) (n : ℕ) (x : Decision) where
   abbrev pub Follows : Type 0
   Follows = Gone z stepped (x .task) → Gone z s t ⊎ AbsentIn z stepped (t .key)
 
+  -- what its change answers is the same as before
+  abbrev pub Carries : Type 0
+  Carries = changeAnswer stepped (x .task) ≡ changeAnswer s t
+
   -- what its answer stands on
   pub data Ends : Type 0 where
     -- 5 but for a remove: it decides
-    changes : past t ≡ false → decides z s t ≡ true → isScan (t .operation) ≡ false → x .report ≡ changeAnswer (t .operation) → Ends
+    changes : past t ≡ false → decides z s t ≡ true → isScan (t .operation) ≡ false → x .report ≡ changeAnswer s t → Ends
     -- 12, 17, 18, 21: it has decided
-    tells : past t ≡ true → decides z s t ≡ false → x .report ≡ changeAnswer (t .operation) → Ends
+    tells : past t ≡ true → decides z s t ≡ false → x .report ≡ changeAnswer s t → Ends
     -- 4: it has seen the key present
     present : past t ≡ false → decides z s t ≡ false → looksOld (t .stage) ≡ true → mark s (t .old) ≡ 0 →
         ((m : List Pair) → onPresent m (t .operation) (t .key) (t .argument) (t .function) (value s (t .old)) ≡ effect (x .report) m) → Ends
@@ -89,9 +93,9 @@ module _ (z : Sizes) (s : Tables) (n : ℕ) (x : Decision) where
     scanned : isScan (t .operation) ≡ true → Ends
 
   pub data Goes : Type 0 where
-    on : Onward t x → past (x .task) ≡ past t → decides z s t ≡ false → Follows → Goes
+    on : Onward t x → (past (x .task) ≡ past t) × (past t ≡ true → Carries) → decides z s t ≡ false → Follows → Goes
     -- 5 of a remove, and 11: it decides, and goes on
-    turns : Onward t x → past t ≡ false → past (x .task) ≡ true → decides z s t ≡ true → isScan (t .operation) ≡ false → Follows → Goes
+    turns : Onward t x → past t ≡ false → (past (x .task) ≡ true) × Carries → decides z s t ≡ true → isScan (t .operation) ≡ false → Follows → Goes
     answers : x .task .stage ≡ 0 → isAnswer (x .report) ≡ true → Ends → Goes
     -- 8: no handle is free
     refuses : x .task .stage ≡ 0 → past t ≡ false → decides z s t ≡ false → x .report ≡ report.Refused 9 → Goes

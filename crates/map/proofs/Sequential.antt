@@ -6,8 +6,11 @@ use mathlib.Core.Bool.{true, false, true≢false}
 use mathlib.Core.List.{List}
 use mathlib.Core.Option.{Option, none, some}
 use lib.Dec.{eqb}
-use borrow.Author.Tests.{eqb-true}
-use Rattle.rules.specs.Words.{get, put, putIfAbsent, upsert, compute, inserts}
+use borrow.Author.Tests.{eqb-true, eqb-false}
+use Rattle.rules.specs.declared.Report.{Report}
+use Rattle.rules.specs.declared.Report.the-variants as report
+use Rattle.rules.specs.Words.{get, put, putIfAbsent, upsert, compute, remove, inserts}
+use Rattle.rules.specs.Told.{told}
 use Rattle.rules.specs.Stages.{applied}
 use Rattle.rules.specs.Map.{Pair, pairKey, Ascends, lookup, insert, delete, Effect, onAbsent, onPresent, bySeen, sequential}
 use Rattle.rules.proofs.Tests.{picked, picked-by}
@@ -31,7 +34,7 @@ module _ (m : List Pair) (op k a f : ℕ) where
       Q x = P (x .map)
 
       go : (o : Option ℕ) → P (bySeen m op k a f o .map)
-      go none = picked Q (eqb op get) same (picked Q (eqb op put) (more a) (picked Q (eqb op putIfAbsent) (more a) (picked Q (eqb op upsert) (more a) same)))
+      go none = picked Q (eqb op put) (more a) (picked Q (eqb op putIfAbsent) (more a) (picked Q (eqb op upsert) (more a) (picked Q (eqb op compute) same same)))
       go (some v) =
           picked Q (eqb op get) same
           (picked Q (eqb op put) (more a)
@@ -50,9 +53,9 @@ module _ (m : List Pair) (op k a f : ℕ) where
   pub absent-leaves : inserts op ≡ false → lookup m k ≡ none → sequential m op k a f .map ≡ m
   absent-leaves none-in e =
       ap (λ (x : Effect). x .map) (on-absent e)
-      ∙ picked-by Q (eqb op get) (λ q. refl) (λ g.
-      picked-by Q (eqb op put) (λ q. absurd (clash put refl q)) (λ p.
-      picked-by Q (eqb op putIfAbsent) (λ q. absurd (clash putIfAbsent refl q)) (λ i. picked-by Q (eqb op upsert) (λ q. absurd (clash upsert refl q)) (λ u. refl))))
+      ∙ picked-by Q (eqb op put) (λ q. absurd (clash put refl q)) (λ p.
+      picked-by Q (eqb op putIfAbsent) (λ q. absurd (clash putIfAbsent refl q)) (λ i.
+      picked-by Q (eqb op upsert) (λ q. absurd (clash upsert refl q)) (λ u. picked-by Q (eqb op compute) (λ q. refl) (λ c. refl))))
     where
       Q : Effect → Type 0
       Q x = x .map ≡ m
@@ -71,3 +74,12 @@ get-leaves m k a f = go (lookup m k)
 
 pub putIfAbsent-leaves : (m : List Pair) (k a f v : ℕ) → lookup m k ≡ some v → sequential m putIfAbsent k a f .map ≡ m
 putIfAbsent-leaves m k a f v e = ap (λ (x : Effect). x .map) (on-present m putIfAbsent k a f v e)
+
+-- ---- a remove that answers a value has found it there
+pub removed-found : (m : List Pair) (k a f v : ℕ) → sequential m remove k a f .answer ≡ report.Value v → lookup m k ≡ some v
+unfolding sequential
+removed-found m k a f v = go (lookup m k)
+  where
+    go : (o : Option ℕ) → bySeen m remove k a f o .answer ≡ report.Value v → o ≡ some v
+    go none e = absurd (eqb-false 7 6 refl (ap (λ (r : Report). told r .number) e))
+    go (some w) e = ap some (ap (λ (r : Report). told r .first) e)

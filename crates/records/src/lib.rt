@@ -1,4 +1,4 @@
-// The handle table, lent as records (document 01, "What the tables hold"): a handle's record read, made fresh, its value stored, its deleted mark set.
+// The handle table, lent as records (document 01, "What the tables hold"): a handle's record read, made fresh, its value stored and its deleted mark set, which both give back the value that stood there (document 02, E2).
 // A number past the last record reads as value 0, undeleted, and changes nothing.
 use rules::HandleNo;
 ghost use mathlib.Core.Path.{_≡_};
@@ -36,22 +36,28 @@ pub fn fresh(records: &mut [Record], h: HandleNo)
     }
 }
 
-// The value goes into the handle's record.
-pub fn store(records: &mut [Record], h: HandleNo, v: u64)
-    ensures { λ _. ⌜ (now (records .exit) ≡ stored (now (records .entry)) h v) × ((s : Tables) → withRecords s (now (records .exit)) ≡ putValue (withRecords s (now (records .entry))) h v) ⌝ }
+// The value goes into the handle's record, and the value that stood there is given back.
+pub fn store(records: &mut [Record], h: HandleNo, v: u64) -> u64
+    ensures { λ r. ⌜ (now (records .exit) ≡ stored (now (records .entry)) h v) × ((s : Tables) → withRecords s (now (records .exit)) ≡ putValue (withRecords s (now (records .entry))) h v) × (r ≡ recordAt (now (records .entry)) h .value) × ((s : Tables) → r ≡ value (withRecords s (now (records .entry))) h) ⌝ }
 {
     let i = h.0 as usize;
     if i < records.len() {
+        let former = records[i].value;
         records[i].value = v;
+        return former;
     }
+    0
 }
 
-// The handle's record is marked deleted.
-pub fn mark(records: &mut [Record], h: HandleNo)
-    ensures { λ _. ⌜ (now (records .exit) ≡ marked (now (records .entry)) h) × ((s : Tables) → withRecords s (now (records .exit)) ≡ putMark (withRecords s (now (records .entry))) h 1) ⌝ }
+// The handle's record is marked deleted, and the value that stands there is given back.
+pub fn mark(records: &mut [Record], h: HandleNo) -> u64
+    ensures { λ r. ⌜ (now (records .exit) ≡ marked (now (records .entry)) h) × ((s : Tables) → withRecords s (now (records .exit)) ≡ putMark (withRecords s (now (records .entry))) h 1) × (r ≡ recordAt (now (records .entry)) h .value) × ((s : Tables) → r ≡ value (withRecords s (now (records .entry))) h) ⌝ }
 {
     let i = h.0 as usize;
     if i < records.len() {
+        let value = records[i].value;
         records[i].deleted = 1;
+        return value;
     }
+    0
 }

@@ -1,10 +1,10 @@
--- M1 to M12, the cases beside them and those of scans down hold of the rules, at document 01's sizes: by computing, the longest two in stages.
+-- M1 to M12, the cases beside them, those of former values and those of scans down hold of the rules, at document 01's sizes: by computing, the longest two in stages.
 use mathlib.Core.Path.{_≡_, refl, _∙_, sym}
 use mathlib.Core.List.{List, _++_, map}
 use borrow.Table.Elements.{map-app}
 use Rattle.rules.specs.Words.{limits}
 use Rattle.rules.specs.Calls.{fresh, does}
-use Rattle.rules.specs.Cases.{Line, says, runs, moves, putsOn, falls, emptyDown, retiredDown, inOne, inTwo, inThree, scansAll, scansRange, wholeDown, rangeDown, baseCases, downCases, markedCases}
+use Rattle.rules.specs.Cases.{Line, says, runs, moves, putsOn, falls, emptyDown, retiredDown, inOne, inTwo, inThree, scansAll, scansRange, wholeDown, rangeDown, baseCases, fillCases, downCases, formerCases, markedCases}
 use Rattle.rules.proofs.Broken.{everyRule, judged}
 use Rattle.rules.proofs.Staged.{Holds, Stage, leftBy, then-holds, rowsFrom, one, two, three}
 
@@ -15,39 +15,47 @@ AllHold l = map (runs does (fresh limits)) l ≡ map (map says) l
 both-hold : (l m : List (List Line)) → AllHold l → AllHold m → AllHold (l ++ m)
 both-hold l m h g = map-app (runs does (fresh limits)) l m ∙ rw (h, g) (sym (map-app (map says) l m))
 
--- ---- by computing: the shape that the cases ask for is judged first
+-- ---- by computing: the shape that the cases ask for is judged first, then the cases, the shortest first, each where the ones before it hold
 base : AllHold baseCases
-unfolding everyRule runs moves putsOn
+unfolding everyRule runs moves
 base = let judge = judged in refl
 
--- those of scans down, the longer two in stages
+formers : AllHold formerCases
+unfolding everyRule runs moves
+formers = let judge = judged in let before = base in refl
+
 emptyHolds : Holds (fresh limits) emptyDown
 unfolding everyRule runs moves
-emptyHolds = let judge = judged in refl
+emptyHolds = let judge = judged in let before = formers in refl
 
 retiredHolds : Holds (fresh limits) retiredDown
 unfolding everyRule runs moves putsOn
-retiredHolds = let judge = judged in refl
+retiredHolds = let judge = judged in let before = emptyHolds in refl
 
+fills : AllHold fillCases
+unfolding everyRule runs moves putsOn
+fills = let judge = judged in let before = retiredHolds in refl
+
+-- the longest two, of scans down, in stages
 inOneStage : Stage (fresh limits) inOne one
 unfolding everyRule runs leftBy rowsFrom moves putsOn
-inOneStage = let judge = judged in (refl, refl)
+inOneStage = let judge = judged in let before = fills in (refl, refl)
 
 inTwoStage : Stage one inTwo two
 unfolding everyRule runs leftBy rowsFrom moves putsOn
-inTwoStage = let judge = judged in (refl, refl)
+inTwoStage = let judge = judged in let before = inOneStage in (refl, refl)
 
 rangeHolds : Holds two scansRange
 unfolding everyRule runs rowsFrom moves falls
-rangeHolds = let judge = judged in refl
+rangeHolds = let judge = judged in let before = inTwoStage in refl
 
 inThreeStage : Stage two inThree three
 unfolding everyRule runs leftBy rowsFrom moves putsOn
-inThreeStage = let judge = judged in (refl, refl)
+inThreeStage = let judge = judged in let before = rangeHolds in (refl, refl)
 
 allHolds : Holds three scansAll
 unfolding everyRule runs rowsFrom moves falls
-allHolds = let judge = judged in refl
+allHolds = let judge = judged in let before = inThreeStage in refl
 
 -- ---- the cases, of their stages
 -- what follows the keys 1 to 17 in two chunks
@@ -65,4 +73,4 @@ down = rw (emptyHolds, retiredHolds, whole, range)
 
 -- what the rules say of each case, line by line, is what the case says
 pub marked : map (runs does (fresh limits)) markedCases ≡ map (map says) markedCases
-marked = both-hold baseCases downCases base down
+marked = both-hold baseCases (fillCases ++ downCases ++ formerCases) base (both-hold fillCases (downCases ++ formerCases) fills (both-hold downCases formerCases down formers))

@@ -1,11 +1,11 @@
--- The marked cases M1 to M12, three more, and four of scans down (document 02, E1): each is its calls from fresh tables, every report of them, and what the tables then show (document 01, "Marked cases").
+-- The marked cases M1 to M12, three more, four of scans down (document 02, E1) and three of former values (E2): each is its calls from fresh tables, every report of them, and what the tables then show (document 01, "Marked cases").
 use Prim.Native.Nat.{ℕ, zero, suc, _+_, _-_, _^_}
-use mathlib.Core.List.{List, [], _∷_, _++_, map}
+use mathlib.Core.List.{List, [], _∷_, _++_}
 use lib.ListN.{length}
 use Rattle.rules.specs.declared.Sizes.{Sizes}
 use Rattle.rules.specs.declared.Report.{Report}
 use Rattle.rules.specs.declared.Report.the-variants as report
-use Rattle.rules.specs.Words.{pick, limits, chunkNo, entryNo, get, put, putIfAbsent, upsert, compute, remove, scan, scanDown}
+use Rattle.rules.specs.Words.{pick, limits, chunkNo, get, put, putIfAbsent, upsert, compute, remove, scan, scanDown}
 use Rattle.rules.specs.Tables.{Tables, task, chunk, entry}
 use Rattle.rules.specs.Walks.{linked}
 use Rattle.rules.specs.Rebalance.{Outcome, namingFrom}
@@ -60,7 +60,7 @@ takes n op k a h answer =
 -- puts of the so many keys after k, each into a slot of its own
 unfoldable pub putsOn : ℕ → ℕ → List Line
 putsOn k zero = []
-putsOn k (suc n) = putsOn k n ++ ends 0 put (k + suc n) 7 0 9 report.Done
+putsOn k (suc n) = putsOn k n ++ ends 0 put (k + suc n) 7 0 9 report.Absent
 
 -- puts of the keys 1 to n
 abbrev pub puts : ℕ → List Line
@@ -99,23 +99,23 @@ abbrev pub m2 : List Line
 m2 = takes 0 putIfAbsent 5 50 0 report.True
 
 abbrev pub m3 : List Line
-m3 = m2 ++ finishes 0 put 5 60 0 5 report.Done ++ finishes 0 get 5 0 0 4 (report.Value 60)
+m3 = m2 ++ finishes 0 put 5 60 0 5 (report.Value 50) ++ finishes 0 get 5 0 0 4 (report.Value 60)
 
 abbrev pub m4 : List Line
-m4 = m2 ++ finishes 0 remove 5 0 0 11 report.True ++ finishes 0 remove 5 0 0 3 report.False
+m4 = m2 ++ finishes 0 remove 5 0 0 11 (report.Value 50) ++ finishes 0 remove 5 0 0 3 report.Absent
 
 abbrev pub m5 : List Line
-m5 = finishes 0 put 5 (2 ^ 64 - 1) 0 9 report.Done ++ finishes 0 compute 5 1 1 5 report.True ++ finishes 0 get 5 0 0 4 (report.Value 0)
+m5 = finishes 0 put 5 (2 ^ 64 - 1) 0 9 report.Absent ++ finishes 0 compute 5 1 1 5 report.True ++ finishes 0 get 5 0 0 4 (report.Value 0)
 
 abbrev pub m6 : List Line
 m6 =
     m2
     ++ reports (start 0 get 5 0 0) report.Moved
     ∷ moves 0 3
-    ++ finishes 1 remove 5 0 0 11 report.True
-    ++ takes 2 put 9 90 1 report.Done
+    ++ finishes 1 remove 5 0 0 11 (report.Value 50)
+    ++ takes 2 put 9 90 1 report.Absent
     ++ reports (step 0) report.Absent
-    ∷ takes 3 put 11 110 0 report.Done
+    ∷ takes 3 put 11 110 0 report.Absent
 
 abbrev pub m7 : List Line
 m7 =
@@ -140,7 +140,7 @@ m8 =
     ++ reports (begin 5) report.Moved
     ∷ reports rebalance report.Waiting
     ∷ moves 0 1
-    ++ reports (step 0) report.Done
+    ++ reports (step 0) report.Absent
     ∷ reports rebalance report.Moved
     ∷ reports rebalance report.Moved
     ∷ shows (naming 1) 1
@@ -153,7 +153,7 @@ m9 =
     reports (start 0 get 5 0 0) report.Moved
     ∷ moves 0 1
     ++ swapped
-    ++ finishes 1 put 5 50 0 9 report.Done
+    ++ finishes 1 put 5 50 0 9 report.Absent
     ++ reports rebalance report.Waiting
     ∷ reports (step 0) report.Absent
     ∷ reports rebalance report.Finished
@@ -199,7 +199,7 @@ lost =
     ++ shows (naming 0) 0
     ∷ reports (step 0) report.False
     ∷ moves 1 2
-    ++ reports (step 1) report.True
+    ++ reports (step 1) (report.Value 50)
     ∷ shaped
     ∷ []
 
@@ -211,7 +211,7 @@ functions =
     ++ finishes 0 get 5 0 0 4 (report.Value 60)
     ++ finishes 0 compute 5 40 2 5 report.True
     ++ finishes 0 get 5 0 0 4 (report.Value 60)
-    ++ finishes 0 put 5 12 0 5 report.Done
+    ++ finishes 0 put 5 12 0 5 (report.Value 60)
     ++ finishes 0 compute 5 10 3 5 report.True
     ++ finishes 0 get 5 0 0 4 (report.Value 14)
 
@@ -298,9 +298,9 @@ retiredDown =
     ∷ moves 0 1
     ++ reports (step 0) (report.Pair 4 7)
     ∷ swapped
-    ++ finishes 1 put 9 90 0 9 report.Done
-    ++ finishes 1 put 2 20 0 5 report.Done
-    ++ finishes 1 remove 3 0 0 11 report.True
+    ++ finishes 1 put 9 90 0 9 report.Absent
+    ++ finishes 1 put 2 20 0 5 (report.Value 7)
+    ++ finishes 1 remove 3 0 0 11 (report.Value 7)
     ++ reports rebalance report.Waiting
     ∷ moves 0 1
     ++ reports (step 0) (report.Pair 2 20)
@@ -311,12 +311,42 @@ retiredDown =
     ∷ shaped
     ∷ []
 
+-- ---- former values (document 02, E2)
+-- after M2 an upsert comes between a put's check and its apply: the put answers what the upsert has left, not what it has seen
+abbrev pub upsertBetween : List Line
+upsertBetween =
+    m2
+    ++ reports (start 0 put 5 60 0) report.Moved
+    ∷ moves 0 4
+    ++ finishes 1 upsert 5 1 1 5 report.Done
+    ++ reports (step 0) (report.Value 51)
+    ∷ finishes 0 get 5 0 0 4 (report.Value 60)
+
+-- after M2 a remove has set its mark; so many steps later a put swaps its handle out of the entry, and some more later it ends: it answers the value that it has removed, and not the one that the entry then names
+abbrev pub swappedOut : ℕ → ℕ → List Line
+swappedOut sooner later =
+    m2
+    ++ reports (start 0 remove 5 0 0) report.Moved
+    ∷ moves 0 (5 + sooner)
+    ++ takes 1 put 5 70 1 report.Absent
+    ++ moves 0 later
+    ++ reports (step 0) (report.Value 50)
+    ∷ finishes 0 get 5 0 0 4 (report.Value 70)
+
 -- ---- all of them
 abbrev pub baseCases : List (List Line)
-baseCases = m1 ∷ m2 ∷ m3 ∷ m4 ∷ m5 ∷ m6 ∷ m7 ∷ m8 ∷ m9 ∷ m10 ∷ m10two ∷ m11 ∷ m12 ∷ lost ∷ functions ∷ upserts ∷ []
+baseCases = m1 ∷ m2 ∷ m3 ∷ m4 ∷ m5 ∷ m6 ∷ m7 ∷ m8 ∷ m9 ∷ m12 ∷ lost ∷ functions ∷ upserts ∷ []
+
+-- those that fill a chunk
+abbrev pub fillCases : List (List Line)
+fillCases = m10 ∷ m10two ∷ m11 ∷ []
 
 abbrev pub downCases : List (List Line)
 downCases = emptyDown ∷ retiredDown ∷ wholeDown ∷ rangeDown ∷ []
 
+-- a remove's entry is swapped out before it looks again, and after it has published, so that its own swap finds another handle
+abbrev pub formerCases : List (List Line)
+formerCases = upsertBetween ∷ swappedOut 0 2 ∷ swappedOut 4 1 ∷ []
+
 abbrev pub markedCases : List (List Line)
-markedCases = baseCases ++ downCases
+markedCases = baseCases ++ fillCases ++ downCases ++ formerCases

@@ -1,6 +1,5 @@
 -- The sequential ordered map: an ascending list of pairs, and what each operation answers and leaves (demand 2's "a sequential ordered map").
 use Prim.Native.Nat.{ℕ, _+_, _≤_}
-use mathlib.Core.Bool.{Bool, true, false}
 use mathlib.Core.List.{List, [], _∷_}
 use mathlib.Core.Option.{Option, none, some}
 use lib.Dec.{eqb, ltb}
@@ -50,23 +49,24 @@ abbrev pub effect : Report → List Pair → Effect
 effect r m = record { answer = r; map = m }
 
 module _ (m : List Pair) (op k a f : ℕ) where
-  -- "on an absent key"
+  -- "on an absent key"; get and remove answer absent
   abbrev pub onAbsent : Effect
   onAbsent =
-      pick (eqb op get) (effect report.Absent m)
-      (pick (eqb op put) (effect report.Done (insert m k a))
+      pick (eqb op put) (effect report.Absent (insert m k a))
       (pick (eqb op putIfAbsent) (effect report.True (insert m k a))
       (pick (eqb op upsert) (effect report.Done (insert m k a))
-      (effect report.False m))))
+      (pick (eqb op compute) (effect report.False m)
+      (effect report.Absent m))))
 
+  -- on a present one, with its value; put and remove answer it (document 02, E2)
   abbrev pub onPresent : ℕ → Effect
   onPresent v =
       pick (eqb op get) (effect (report.Value v) m)
-      (pick (eqb op put) (effect report.Done (insert m k a))
+      (pick (eqb op put) (effect (report.Value v) (insert m k a))
       (pick (eqb op putIfAbsent) (effect report.False m)
       (pick (eqb op upsert) (effect report.Done (insert m k (applied f a v)))
       (pick (eqb op compute) (effect report.True (insert m k (applied f a v)))
-      (effect report.True (delete m k))))))
+      (effect (report.Value v) (delete m k))))))
 
   abbrev pub bySeen : Option ℕ → Effect
   bySeen none = onAbsent

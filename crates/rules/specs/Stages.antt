@@ -1,6 +1,6 @@
 -- The stages of a task: for each, what its row becomes, what changes elsewhere, and the report (document 01, "Stages of a task").
 use Prim.Native.Nat.{ℕ, _+_, _-_, _%_, _^_, max}
-use mathlib.Core.Bool.{Bool, true, false}
+use mathlib.Core.Bool.{Bool, false}
 use mathlib.Core.List.{List}
 use lib.Dec.{eqb, ltb, leb}
 use lib.ListN.{set}
@@ -18,7 +18,7 @@ use Rattle.rules.specs.declared.Report.{Report}
 use Rattle.rules.specs.declared.Report.the-variants as report
 use Rattle.rules.specs.declared.Decision.{Decision}
 use Rattle.rules.specs.Words.{pick, _and_, _or_, noChunk, noEntry, noHandle, entryNo, get, put, putIfAbsent, upsert, compute, remove, inserts}
-use Rattle.rules.specs.Tables.{Tables, idleTask, emptyEntry, chunk, putChunk, entry, putEntry, value, putValue, mark, putMark, withOwn, task, stack}
+use Rattle.rules.specs.Tables.{Tables, idleTask, chunk, putChunk, entry, putEntry, value, putValue, mark, putMark, withOwn, task, stack}
 use Rattle.rules.specs.Walks.{locate, find, place, firstPresent, lowestFree, within, top, off, over, undeleted}
 
 -- ---- a task's row afterwards
@@ -44,9 +44,9 @@ restarts t why = record { task = goesTo t 1 noChunk noEntry noHandle noHandle 0 
 abbrev pub finishes : Write → Report → Decision
 finishes w answer = record { task = idleTask; write = w; report = answer }
 
--- get answers absent; compute and remove answer false
+-- get and remove answer absent; compute answers false
 abbrev pub finishesAbsent : Task → Decision
-finishesAbsent t = finishes write.Nothing (pick (eqb (t .operation) get) report.Absent report.False)
+finishesAbsent t = finishes write.Nothing (pick (eqb (t .operation) compute) report.False report.Absent)
 
 -- the functions of upsert and compute: add modulo 2^64, the larger, bitwise or
 abbrev pub applied : ℕ → ℕ → ℕ → ℕ
@@ -73,6 +73,10 @@ module _ (z : Sizes) (s : Tables) (t : Task) where
   -- the swap found another handle
   abbrev pub swapFailed : Bool
   swapFailed = eqb (t .swapped) 0
+
+  -- "give back the value that stood there" (document 02, E2): a put the one that it stores over, a remove that has set its mark the one that still stands in the handle it has deleted
+  abbrev pub givesBack : Write → Decision
+  givesBack w = finishes w (report.Value (value s (t .old)))
 
   -- ---- the stages
   -- 1 locate, and 16 for a remove that has set its mark: the live chunk whose range has the key
@@ -113,7 +117,7 @@ module _ (z : Sizes) (s : Tables) (t : Task) where
       (pick (eqb (t .operation) remove)
       (moves (goesTo t 16 noChunk noEntry (t .old) noHandle 0 0) (write.Delete (t .old)))
       (pick (eqb (t .operation) put)
-      (finishes (write.Store (t .old) (t .argument)) report.Done)
+      (givesBack (write.Store (t .old) (t .argument)))
       (finishes (write.Store (t .old) (applied (t .function) (t .argument) (value s (t .old)))) (pick (eqb (t .operation) compute) report.True report.Done))))
       (pick (inserts (t .operation)) (restarts t report.Lost) (moves (keeps t 13) write.Nothing))
 
@@ -163,9 +167,9 @@ module _ (z : Sizes) (s : Tables) (t : Task) where
       (moves (goesTo t (t .stage + 1) (t .chunk) (t .entry) (t .old) (t .new) 1 (pick (eqb (t .stage) 20) 0 1)) (write.Name (t .chunk) (t .entry) h))
       (moves (keeps t (t .stage + 1)) write.Nothing)
 
-  -- 12 unpublish
+  -- 12 unpublish: the key was absent, so a put has replaced nothing
   abbrev pub endsInsertion : Decision
-  endsInsertion = pick swapFailed (restarts t report.Lost) (finishes write.Nothing (pick (eqb (t .operation) putIfAbsent) report.True report.Done))
+  endsInsertion = pick swapFailed (restarts t report.Lost) (finishes write.Nothing (pick (eqb (t .operation) put) report.Absent (pick (eqb (t .operation) putIfAbsent) report.True report.Done)))
 
   -- 15 unpublish
   abbrev pub endsAbsent : Decision
@@ -177,15 +181,15 @@ module _ (z : Sizes) (s : Tables) (t : Task) where
       let e = find z s (t .chunk) (t .key) in
       pick hasKey
       (moves (goesTo t 18 (t .chunk) e (t .old) noHandle 0 0) write.Nothing)
-      (finishes write.Nothing report.True)
+      (givesBack write.Nothing)
 
   -- 18 read again
   abbrev pub readsAgain : Decision
-  readsAgain = pick (eqb (entry z s (t .chunk) (t .entry) .handle .0) (t .old .0)) (moves (keeps t 19) write.Nothing) (finishes write.Nothing report.True)
+  readsAgain = pick (eqb (entry z s (t .chunk) (t .entry) .handle .0) (t .old .0)) (moves (keeps t 19) write.Nothing) (givesBack write.Nothing)
 
   -- 21 unpublish
   abbrev pub endsRemove : Decision
-  endsRemove = finishes write.Nothing report.True
+  endsRemove = givesBack write.Nothing
 
   -- 22 scan
   abbrev pub scans : Decision

@@ -55,10 +55,10 @@ pub data Acts (z : Sizes) (s : Tables) (t : Task) : Write → Type 0 where
   -- 9: the argument to the handle taken
   writes : t .new .0 < z .handles → t .swapped ≡ 0 → decides z s t ≡ false → Acts z s t (write.Store (t .new) (t .argument))
   -- 5: what the operation makes of the old handle's value
-  stores : (v : ℕ) → t .old .0 < z .handles → mark s (t .old) ≡ 0 → ((m : List Pair) → onPresent m (t .operation) (t .key) (t .argument) (t .function) (value s (t .old)) ≡ effect (changeAnswer (t .operation)) (insert m (t .key) v)) → decides z s t ≡ true → Acts z s t (write.Store (t .old) v)
-  deletes : t .old .0 < z .handles → mark s (t .old) ≡ 0 → ((m : List Pair) → onPresent m (t .operation) (t .key) (t .argument) (t .function) (value s (t .old)) ≡ effect (changeAnswer (t .operation)) (delete m (t .key))) → decides z s t ≡ true → Acts z s t (write.Delete (t .old))
+  stores : (v : ℕ) → t .old .0 < z .handles → mark s (t .old) ≡ 0 → ((m : List Pair) → onPresent m (t .operation) (t .key) (t .argument) (t .function) (value s (t .old)) ≡ effect (changeAnswer s t) (insert m (t .key) v)) → decides z s t ≡ true → Acts z s t (write.Store (t .old) v)
+  deletes : t .old .0 < z .handles → mark s (t .old) ≡ 0 → ((m : List Pair) → onPresent m (t .operation) (t .key) (t .argument) (t .function) (value s (t .old)) ≡ effect (changeAnswer s t) (delete m (t .key))) → decides z s t ≡ true → Acts z s t (write.Delete (t .old))
   -- 11
-  names : Swaps z s t → t .new .0 < z .handles → t .swapped ≡ 0 → 10 ≤ t .stage → ((m : List Pair) → onAbsent m (t .operation) (t .key) (t .argument) (t .function) ≡ effect (changeAnswer (t .operation)) (insert m (t .key) (t .argument))) → decides z s t ≡ true → Acts z s t (write.Name (t .chunk) (t .entry) (t .new))
+  names : Swaps z s t → t .new .0 < z .handles → t .swapped ≡ 0 → 10 ≤ t .stage → ((m : List Pair) → onAbsent m (t .operation) (t .key) (t .argument) (t .function) ≡ effect (changeAnswer s t) (insert m (t .key) (t .argument))) → decides z s t ≡ true → Acts z s t (write.Name (t .chunk) (t .entry) (t .new))
   -- 14 and 20
   drops : Swaps z s t → decides z s t ≡ false → Acts z s t (write.Name (t .chunk) (t .entry) noHandle)
 
@@ -76,22 +76,22 @@ module _ (z : Sizes) (s : Tables) (t : Task) (r : Tasked z (s .chunks) (s .entri
   quiet m e p q v = Acts.still v (undecided m e p q)
 
   -- the operations that reach 11 and 5
-  at-swap : t .stage ≡ 11 → (m : List Pair) → onAbsent m (t .operation) (t .key) (t .argument) (t .function) ≡ effect (changeAnswer (t .operation)) (insert m (t .key) (t .argument))
+  at-swap : t .stage ≡ 11 → (m : List Pair) → onAbsent m (t .operation) (t .key) (t .argument) (t .function) ≡ effect (changeAnswer s t) (insert m (t .key) (t .argument))
   at-swap e m = go (or-cases _ _ (fits-test 11 (λ op. eqb op put or (eqb op putIfAbsent or eqb op upsert)) refl (t .operation) (rw e at (holds-at 11 e (omega arith) .fits))))
     where
       Is : Type 0
-      Is = onAbsent m (t .operation) (t .key) (t .argument) (t .function) ≡ effect (changeAnswer (t .operation)) (insert m (t .key) (t .argument))
+      Is = onAbsent m (t .operation) (t .key) (t .argument) (t .function) ≡ effect (changeAnswer s t) (insert m (t .key) (t .argument))
 
       go : (eqb (t .operation) put ≡ true) ⊎ ((eqb (t .operation) putIfAbsent or eqb (t .operation) upsert) ≡ true) → Is
-      go (inl q) = rw (eqb-true (t .operation) put q) refl
+      go (inl q) = rw (e, eqb-true (t .operation) put q) refl
       go (inr q) = ⊎-elim (λ (i : eqb (t .operation) putIfAbsent ≡ true). rw (eqb-true (t .operation) putIfAbsent i) refl) (λ (i : eqb (t .operation) upsert ≡ true). rw (eqb-true (t .operation) upsert i) refl) (or-cases _ _ q)
 
   at-apply : t .stage ≡ 5 → eqb (t .operation) remove ≡ false → eqb (t .operation) put ≡ false → (m : List Pair) →
-      onPresent m (t .operation) (t .key) (t .argument) (t .function) (value s (t .old)) ≡ effect (changeAnswer (t .operation)) (insert m (t .key) (Stages.applied (t .function) (t .argument) (value s (t .old))))
+      onPresent m (t .operation) (t .key) (t .argument) (t .function) (value s (t .old)) ≡ effect (changeAnswer s t) (insert m (t .key) (Stages.applied (t .function) (t .argument) (value s (t .old))))
   at-apply e nr np m = go (or-cases _ _ (fits-test 5 (λ op. (eqb op put or eqb op remove) or (eqb op upsert or eqb op compute)) refl (t .operation) (rw e at (holds-at 5 e (omega arith) .fits))))
     where
       Is : Type 0
-      Is = onPresent m (t .operation) (t .key) (t .argument) (t .function) (value s (t .old)) ≡ effect (changeAnswer (t .operation)) (insert m (t .key) (Stages.applied (t .function) (t .argument) (value s (t .old))))
+      Is = onPresent m (t .operation) (t .key) (t .argument) (t .function) (value s (t .old)) ≡ effect (changeAnswer s t) (insert m (t .key) (Stages.applied (t .function) (t .argument) (value s (t .old))))
 
       go : ((eqb (t .operation) put or eqb (t .operation) remove) ≡ true) ⊎ ((eqb (t .operation) upsert or eqb (t .operation) compute) ≡ true) → Is
       go (inl q) = ⊎-elim (λ i. absurd (false≢true (sym np ∙ i))) (λ i. absurd (false≢true (sym nr ∙ i))) (or-cases _ _ q)
@@ -101,8 +101,8 @@ module _ (z : Sizes) (s : Tables) (t : Task) (r : Tasked z (s .chunks) (s .entri
   applies-act e =
       let b : t .old .0 < z .handles = ltb-true _ _ (holds-at 5 e (omega arith) .old) in
       picked By (eqb (mark s (t .old)) 0)
-      (λ d. picked By (eqb (t .operation) remove) (λ q. Acts.deletes b (eqb-true _ _ d) (λ m. rw (eqb-true (t .operation) remove q) refl) (rw (e, d) refl))
-      (λ nr. picked By (eqb (t .operation) put) (λ q. Acts.stores (t .argument) b (eqb-true _ _ d) (λ m. rw (eqb-true (t .operation) put q) refl) (rw (e, d) refl))
+      (λ d. picked By (eqb (t .operation) remove) (λ q. Acts.deletes b (eqb-true _ _ d) (λ m. rw (e, eqb-true (t .operation) remove q) refl) (rw (e, d) refl))
+      (λ nr. picked By (eqb (t .operation) put) (λ q. Acts.stores (t .argument) b (eqb-true _ _ d) (λ m. rw (e, eqb-true (t .operation) put q) refl) (rw (e, d) refl))
       (λ np. Acts.stores (Stages.applied (t .function) (t .argument) (value s (t .old))) b (eqb-true _ _ d) (at-apply e nr np) (rw (e, d) refl))))
       (λ d. Acts.still (simp stilled) (rw (e, d) refl))
 

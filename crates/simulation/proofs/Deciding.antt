@@ -130,7 +130,7 @@ module _ (z : Sizes) (lim : Limited z) (s : Tables) (kept : Kept z s) (own : Own
 
     -- the operation puts a value there, or takes the key out, and so do the tables
     abbrev pub Decided : Write → Type 0
-    Decided w = ((v : ℕ) × (then-done ≡ effect (changeAnswer (t .operation)) (insert m (t .key) v)) × PresentBy z (Rows.after z lim s kept ts ss w) (t .key) v) ⊎ ((then-done ≡ effect (changeAnswer (t .operation)) (delete m (t .key))) × ((v : ℕ) → PresentBy z (Rows.after z lim s kept ts ss w) (t .key) v → ⊥))
+    Decided w = ((v : ℕ) × (then-done ≡ effect (changeAnswer s t) (insert m (t .key) v)) × PresentBy z (Rows.after z lim s kept ts ss w) (t .key) v) ⊎ ((then-done ≡ effect (changeAnswer s t) (delete m (t .key))) × ((v : ℕ) → PresentBy z (Rows.after z lim s kept ts ss w) (t .key) v → ⊥))
 
     at-present : t .old .0 < z .handles → getD (s .marks) (t .old .0) 0 ≡ 0 → lookup m (t .key) ≡ some (value s (t .old))
     at-present b q = sim (t .key) (value s (t .old)) .1 (old-present b q)
@@ -179,5 +179,5 @@ module _ (z : Sizes) (lim : Limited z) (s : Tables) (kept : Kept z s) (own : Own
         by (inl d) = everywhere (λ v. rw (ap (λ (y : Effect). y .map) (d .1)) (put-in (d .0) (d .2) v))
         by (inr d) = everywhere (λ v. rw (ap (λ (y : Effect). y .map) (d .0)) (taken-out (d .1) v))
 
-    pub step-changes : decides z s t ≡ true → then-done .answer ≡ changeAnswer (t .operation)
+    pub step-changes : decides z s t ≡ true → then-done .answer ≡ changeAnswer s t
     step-changes d = ⊎-elim (λ c. ap (λ (y : Effect). y .answer) (c .1)) (λ c. ap (λ (y : Effect). y .answer) (c .0)) (decided (acts z lim s kept n) d)

@@ -29,7 +29,7 @@ use Rattle.statements.specs.Sound.{Limited}
 use Rattle.facts.specs.Facts.{Waits, Allowed, Kept}
 use Rattle.statements.specs.Runs.{decides}
 use Rattle.handles.specs.Owned.{Row, NamedUnder}
-use Rattle.handles.proofs.Free.{free-unnamed}
+use Rattle.handles.proofs.Free.{free-unnamed, free-unheld}
 use Rattle.handles.proofs.Owning.{OwnedBy}
 use Rattle.holds.specs.Marked.{Marked}
 use Rattle.simulation.proofs.Acts.{stills, Swaps, Acts}
@@ -189,3 +189,13 @@ module _ (z : Sizes) (lim : Limited z) (s : Tables) (kept : Kept z s) (ts : List
         go (Acts.deletes i q j u) = (getD-set-other (s .marks) (t .old .0) h 1 0 (not-old i u), refl)
         go (Acts.names x i q le j u) = (refl, refl)
         go (Acts.drops x u) = (refl, refl)
+
+    -- the value in a deleted handle that a task holds stays: nobody stores into a deleted one, and none that is held is handed out
+    pub deleted-same : OwnedBy z s → {w : Write} → Acts z s t w → (m : ℕ) → getD (s .marks) (task s m .old .0) 0 ≡ 1 → getD (after w .values) (task s m .old .0) 0 ≡ getD (s .values) (task s m .old .0) 0
+    deleted-same own (Acts.still {w = w} x u) m d = rw (still-records w x .1) refl
+    deleted-same own (Acts.takes i u) m d = getD-set-other (s .values) (lowestFree z s .0) (task s m .old .0) 0 0 (free-unheld z (lim .handles) s len i m .0)
+    deleted-same own (Acts.writes i q u) m d = getD-set-other (s .values) (t .new .0) (task s m .old .0) (t .argument) 0 (own .new-own n i q .not-old m)
+    deleted-same own (Acts.stores v i q j u) m d = getD-set-other (s .values) (t .old .0) (task s m .old .0) v 0 (λ p. omega (arith, d, ap (λ (h : ℕ). getD (s .marks) h 0) p ∙ q))
+    deleted-same own (Acts.deletes i q j u) m d = refl
+    deleted-same own (Acts.names x i q le j u) m d = refl
+    deleted-same own (Acts.drops x u) m d = refl

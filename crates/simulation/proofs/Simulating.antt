@@ -97,7 +97,7 @@ module _ (z : Sizes) (lim : Limited z) where
     call-ascends (begin k) = ascends
     call-ascends rebalance = ascends
 
-    call-changes : (n : ℕ) → decides z s (task s n) ≡ true → sequential m (task s n .operation) (task s n .key) (task s n .argument) (task s n .function) .answer ≡ changeAnswer (task s n .operation)
+    call-changes : (n : ℕ) → decides z s (task s n) ≡ true → sequential m (task s n .operation) (task s n .key) (task s n .argument) (task s n .function) .answer ≡ changeAnswer s (task s n)
     call-changes n = step-changes z lim s kept (reached-owned z lim r) (reached-held z lim r) (reached-marked z lim r) (reached-unlinked z lim r) (reached-lively z lim r) n m sim ascends
 
   -- ---- all calls from fresh
@@ -124,6 +124,6 @@ module _ (z : Sizes) (lim : Limited z) where
   pub beside-shows : {s : Tables} {m : List Pair} → Beside z s m → (k v : ℕ) → Present z s k v ↔ (lookup m k ≡ some v)
   beside-shows {s} b k v = (λ p. beside-holds b .0 k v .1 (present-to z lim s (reached-kept z lim (beside-reached b)) (reached-unlinked z lim (beside-reached b)) p), λ e. present-from z lim s (reached-kept z lim (beside-reached b)) (reached-unlinked z lim (beside-reached b)) (beside-holds b .0 k v .0 e))
 
-  -- at a deciding step the sequential map answers as to a change: never false, absent or a value, the answers that change nothing
-  pub beside-changes : {s : Tables} {m : List Pair} → Beside z s m → (n : ℕ) → decides z s (task s n) ≡ true → sequential m (task s n .operation) (task s n .key) (task s n .argument) (task s n .function) .answer ≡ changeAnswer (task s n .operation)
+  -- at a deciding step the sequential map answers as to a change, with the value that is replaced
+  pub beside-changes : {s : Tables} {m : List Pair} → Beside z s m → (n : ℕ) → decides z s (task s n) ≡ true → sequential m (task s n .operation) (task s n .key) (task s n .argument) (task s n .function) .answer ≡ changeAnswer s (task s n)
   beside-changes {s} {m} b = call-changes s (beside-reached b) m (beside-holds b .0) (beside-holds b .1)

@@ -1,30 +1,15 @@
--- A stage by its number, and one step of the scan's walk, told by the row that the code has read.
-use Prim.Native.Nat.{ℕ, zero, suc, _+_, _-_, _≤_, _<_, zero-le}
-use mathlib.Core.Path.{_≡_, refl, sym, ap, _∙_, subst}
-use mathlib.Core.Bool.{Bool, true, false}
-use mathlib.Core.List.{List}
-use native.Mathlib.Nat.{le-antisymm}
+-- A stage by its number.
+use Prim.Native.Nat.{ℕ, suc, _≤_, _<_}
+use mathlib.Core.Path.{_≡_, sym, ap, _∙_}
 use native.Mathlib.Omega.{arith}
 use lib.ListN.{getD}
-use lib.Dec.{ltb, leb}
-use borrow.Author.Tests.{lt-ltb, le-ltb, ltb-true}
 use Rattle.rules.specs.declared.Sizes.{Sizes}
 use Rattle.rules.specs.declared.Task.{Task}
-use Rattle.rules.specs.declared.Chunk.{Chunk}
-use Rattle.rules.specs.declared.Entry.{Entry}
-use Rattle.rules.specs.declared.ChunkNo.{ChunkNo}
-use Rattle.rules.specs.declared.EntryNo.{EntryNo}
-use Rattle.rules.specs.Words.{pick, _and_, NONE, noEntry}
-use Rattle.rules.specs.Tables.{Tables, chunkAt, entryAt, chunk, entry}
-use Rattle.rules.specs.Walks.{locateFrom, presentFrom, undeleted, locate}
+use Rattle.rules.specs.Tables.{Tables}
 use Rattle.rules.specs.Stages.{stageDoes, decide}
 use Rattle.rules.specs.Shape.{hold, stageList}
-use Rattle.rules.proofs.Tests.{and-left, and-right}
-use Rattle.walks.proofs.Laws.{fuelled}
-use Rattle.stages.specs.Lengths.{Holds, Held}
-use Rattle.stages.specs.Walked.{Walked}
+use Rattle.outcome.specs.Lengths.{Holds, Held}
 
--- ---- a stage by its number
 pub at : (n i : ℕ) (z : Sizes) (s : Tables) (t : Task) → t .stage ≡ n → stageDoes n i z s t ≡ decide z s i t
 at n i z s t e = ap (λ (m : ℕ). stageDoes m i z s t) (sym e)
 
@@ -41,56 +26,3 @@ crossed k n h l = omega arith
 
 pub over : (k n : ℕ) → k ≤ n → (n ≡ k → ⊥) → suc k ≤ n
 over k n h e = omega arith
-
--- ---- along the live chunks
-module _ (z : Sizes) (cs : List Chunk) (c : ChunkNo) (x : Chunk) (q : x ≡ chunkAt cs c) (k left : ℕ) where
-  pub on-next : 0 < left → (ltb (x .next .0) (z .chunks) and leb (chunkAt cs (x .next) .min) k) ≡ true → locateFrom z cs left c k ≡ locateFrom z cs (left - 1) (x .next) k
-  unfolding locateFrom
-  on-next p t = fuelled (λ n. locateFrom z cs n c k) (λ n. locateFrom z cs n (x .next) k) (λ n. rw (← q, t)) left p
-
-  pub on-stop : (ltb (x .next .0) (z .chunks) and leb (chunkAt cs (x .next) .min) k) ≡ false → locateFrom z cs left c k ≡ c
-  unfolding locateFrom
-  on-stop t = go left
-    where
-      go : (n : ℕ) → locateFrom z cs n c k ≡ c
-      go zero = refl
-      go (suc n) = rw (← q, t)
-
--- ---- along the chunk's list
-module _ (z : Sizes) (es : List Entry) (ms : List ℕ) (c : ChunkNo) (from to : ℕ) where
-  -- the entry's key lies in the range, and it names an undeleted handle
-  abbrev pub inRange : Entry → Bool
-  inRange x = leb from (x .key) and ltb (x .key) to and undeleted z ms (x .handle)
-
-  pub present-spent : (e : EntryNo) (left : ℕ) → left ≤ 0 → presentFrom z es ms c from to left e ≡ noEntry
-  unfolding presentFrom
-  present-spent e left h = rw (le-antisymm h zero-le)
-
-  pub present-out : (e : EntryNo) (left : ℕ) → z .entries ≤ e .0 → presentFrom z es ms c from to left e ≡ noEntry
-  unfolding presentFrom
-  present-out e zero h = refl
-  present-out e (suc n) h = rw (le-ltb _ _ h)
-
-  pub present-here : (e : EntryNo) (left : ℕ) → 0 < left → e .0 < z .entries → (x : Entry) → x ≡ entryAt z es c e → inRange x ≡ true → presentFrom z es ms c from to left e ≡ e
-  unfolding presentFrom
-  present-here e left p h x q t = fuelled (λ n. presentFrom z es ms c from to n e) (λ n. e) (λ n. rw (lt-ltb _ _ h, ← q, t)) left p
-
-  pub present-next : (e : EntryNo) (left : ℕ) → 0 < left → e .0 < z .entries → (x : Entry) → x ≡ entryAt z es c e → inRange x ≡ false → presentFrom z es ms c from to left e ≡ presentFrom z es ms c from to (left - 1) (x .next)
-  unfolding presentFrom
-  present-next e left p h x q t = fuelled (λ n. presentFrom z es ms c from to n e) (λ n. presentFrom z es ms c from to n (x .next)) (λ n. rw (lt-ltb _ _ h, ← q, t)) left p
-
-  -- what is found lies below the upper end
-  pub present-below : (fits : z .entries ≤ NONE) (left : ℕ) (e : EntryNo) → presentFrom z es ms c from to left e .0 < z .entries → entryAt z es c (presentFrom z es ms c from to left e) .key < to
-  unfolding presentFrom
-  present-below fits zero e h = absurd (omega arith)
-  present-below fits (suc n) e h = go (ltb (e .0) (z .entries)) (inRange (entryAt z es c e)) refl (present-below fits n (entryAt z es c e .next)) h
-    where
-      go : (a b : Bool) → inRange (entryAt z es c e) ≡ b → (presentFrom z es ms c from to n (entryAt z es c e .next) .0 < z .entries → entryAt z es c (presentFrom z es ms c from to n (entryAt z es c e .next)) .key < to) → pick a (pick b e (presentFrom z es ms c from to n (entryAt z es c e .next))) noEntry .0 < z .entries → entryAt z es c (pick a (pick b e (presentFrom z es ms c from to n (entryAt z es c e .next))) noEntry) .key < to
-      go false b t on h = absurd (omega arith)
-      go true true t on h = ltb-true (entryAt z es c e .key) to (and-left (ltb (entryAt z es c e .key) to) (undeleted z ms (entryAt z es c e .handle)) (and-right (leb from (entryAt z es c e .key)) _ t))
-      go true false t on h = on h
-
--- the key that the scan's walk comes to lies below the upper end
-pub seen-below : (z : Sizes) (s : Tables) (from to : ℕ) (c : ChunkNo) (e : EntryNo) → Walked z s from to c e → e .0 < z .entries → z .entries ≤ NONE → entry z s c e .key < to
-seen-below z s from to c e w h fits =
-    rw (w .chunk, w .entry) (present-below z (s .entries) (s .marks) (locate z s from) from to fits (z .entries) (chunk s (locate z s from) .head) (rw (w .entry) at h))

@@ -1,10 +1,5 @@
 // What a step decides, stage by stage (document 01, "Stages of a task"): the task's row afterwards, what changes elsewhere, and the report.
-mod change;
-mod down;
-mod outcome;
 mod publish;
-mod scan;
-mod seek;
 
 use rules::Decision;
 use rules::Sizes;
@@ -13,7 +8,7 @@ ghost use mathlib.Core.Path.{_≡_};
 ghost use Prim.Native.Nat.{_<_};
 ghost use Rattle.rules.specs.Stages.{decide};
 ghost use Rattle.rows.specs.Rows.{directoryOf, asLent, Lends};
-ghost use Rattle.stages.specs.Lengths.{Held};
+ghost use Rattle.outcome.specs.Lengths.{Held};
 
 // The step looks at each of the 24 stage numbers, for task number `n`.
 pub fn decide(
@@ -33,22 +28,22 @@ pub fn decide(
     let stage = t.stage;
     match stage {
         0 => outcome::stays(t),
-        1 | 16 => seek::locate(z, directory, chunks, t),
-        2 => seek::find(z, chunks, entries, t),
-        3 => seek::read(z, entries, t),
-        4 => change::check(values, marks, t),
-        5 => change::apply(values, marks, t),
-        6 => change::take_entry(z, chunks, t),
-        7 => change::link(z, chunks, entries, t),
-        8 => change::take_handle(z, tasks, entries, t),
-        9 => change::write(t),
+        1 | 16 => seeking::locate(z, directory, chunks, t),
+        2 => seeking::find(z, chunks, entries, t),
+        3 => seeking::read(z, entries, t),
+        4 => changing::check(values, marks, t),
+        5 => changing::apply(values, marks, t),
+        6 => changing::take_entry(z, chunks, t),
+        7 => changing::link(z, chunks, entries, t),
+        8 => changing::take_handle(z, tasks, entries, t),
+        9 => changing::write(t),
         10..=12 => publish::insertion(z, chunks, entries, t),
         13..=15 => publish::absence(z, chunks, entries, t),
-        17 => seek::find_again(z, chunks, entries, t),
-        18 => seek::read_again(z, entries, t),
-        19..=21 => publish::removal(z, chunks, entries, t),
-        22 => scan::scan(z, directory, chunks, entries, values, marks, t),
-        23 => down::scan_down(z, directory, tasks, chunks, entries, values, marks, n, t),
+        17 => seeking::find_again(z, chunks, entries, values, t),
+        18 => seeking::read_again(z, entries, values, t),
+        19..=21 => publish::removal(z, chunks, entries, values, t),
+        22 => scanning::scan(z, directory, chunks, entries, values, marks, t),
+        23 => scanning::scan_down(z, directory, tasks, chunks, entries, values, marks, n, t),
         _ => outcome::stays(t),
     }
 }

@@ -1,9 +1,10 @@
 // The three groups of publish, swap and unpublish: stages 10 to 12, 13 to 15, 19 to 21.
-use crate::outcome::finishes;
-use crate::outcome::finishes_absent;
-use crate::outcome::moves_keeping;
-use crate::outcome::moves_to;
-use crate::outcome::restarts;
+use outcome::finishes;
+use outcome::finishes_absent;
+use outcome::gives_back;
+use outcome::moves_keeping;
+use outcome::moves_to;
+use outcome::restarts;
 use rules::Chunk;
 use rules::ChunkNo;
 use rules::Decision;
@@ -23,7 +24,7 @@ ghost use Rattle.rules.specs.declared.Sizes.{Sizes};
 ghost use Rattle.rules.specs.Tables.{Tables};
 ghost use Rattle.rules.specs.Stages.{decide, publishes, swaps, endsInsertion, endsAbsent, endsRemove};
 ghost use Rattle.rows.specs.Rows.{tables};
-ghost use Rattle.stages.specs.Lengths.{Chunks, Entries, Holds, Held};
+ghost use Rattle.outcome.specs.Lengths.{Chunks, Entries, Holds, Held};
 
 // 10, 13, 19 publish
 pub fn publish(z: Sizes, chunks: &[u64], t: Task) -> Decision
@@ -97,12 +98,15 @@ pub fn swap(z: Sizes, entries: &[u64], t: Task, h: HandleNo) -> Decision
     )
 }
 
-// 12 unpublish
+// 12 unpublish: the key was absent, so a put has replaced nothing
 pub fn end_insertion(t: Task) -> Decision
     ensures { λ r. ⌜ ((z : Sizes) (s : Tables) → r ≡ endsInsertion z s t) ⌝ }
 {
     if t.swapped == 0 {
         return restarts(t, Report::Lost);
+    }
+    if t.operation == 2 {
+        return finishes(Write::Nothing, Report::Absent);
     }
     if t.operation == 3 {
         return finishes(Write::Nothing, Report::True);
@@ -121,10 +125,10 @@ pub fn end_absent(t: Task) -> Decision
 }
 
 // 21 unpublish
-pub fn end_remove(t: Task) -> Decision
-    ensures { λ r. ⌜ ((z : Sizes) (s : Tables) → r ≡ endsRemove z s t) ⌝ }
+pub fn end_remove(values: &[u64], t: Task) -> Decision
+    ensures { λ r. ⌜ ((z : Sizes) (d ts cs es ms : List ℕ) → r ≡ endsRemove z (tables z d ts cs es (now (values .entry)) ms) t) ⌝ }
 {
-    finishes(Write::Nothing, Report::True)
+    gives_back(values, t, Write::Nothing)
 }
 
 // 10 to 12
@@ -157,9 +161,9 @@ pub fn absence(z: Sizes, chunks: &[u64], entries: &[u64], t: Task) -> Decision
 }
 
 // 19 to 21
-pub fn removal(z: Sizes, chunks: &[u64], entries: &[u64], t: Task) -> Decision
+pub fn removal(z: Sizes, chunks: &[u64], entries: &[u64], values: &[u64], t: Task) -> Decision
     requires { ⌜ Held z t × Chunks z (now chunks) × Entries z (now entries) × (19 ≤ t .stage) × (t .stage ≤ 21) ⌝ }
-    ensures { λ r. ⌜ ((n : ℕ) (d ts vs ms : List ℕ) → r ≡ decide z (tables z d ts (now (chunks .entry)) (now (entries .entry)) vs ms) n t) ⌝ }
+    ensures { λ r. ⌜ ((n : ℕ) (d ts ms : List ℕ) → r ≡ decide z (tables z d ts (now (chunks .entry)) (now (entries .entry)) (now (values .entry)) ms) n t) ⌝ }
 {
     if t.stage == 19 {
         return publish(z, chunks, t);
@@ -167,5 +171,5 @@ pub fn removal(z: Sizes, chunks: &[u64], entries: &[u64], t: Task) -> Decision
     if t.stage == 20 {
         return swap(z, entries, t, HandleNo(NONE));
     }
-    end_remove(t)
+    end_remove(values, t)
 }

@@ -13,7 +13,7 @@ use Rattle.rules.specs.Tables.{Tables, task}
 use Rattle.rules.specs.Shape.{Hold, hold, stageList, heldAs, fitsOperation, holdsRight, isIdle, shape}
 use Rattle.rules.proofs.Tests.{and-left, and-right, from-picked}
 use Rattle.rules.proofs.Shaped.{task-right}
-use Rattle.stages.specs.Lengths.{Held}
+use Rattle.outcome.specs.Lengths.{Held}
 
 always : (how size n : ℕ) → how ≡ 1 → heldAs how size n ≡ true → n < size
 always how size n e t = ltb-true n size (rw e at t)

@@ -7,7 +7,7 @@ ghost use Prim.Native.Nat.{_<_};
 ghost use Rattle.rules.specs.Stages.{decide};
 ghost use Rattle.rules.specs.Rebalance.{gives};
 ghost use Rattle.rows.specs.Rows.{directoryOf, asLent, asLeft, Lends};
-ghost use Rattle.stages.specs.Lengths.{Held};
+ghost use Rattle.outcome.specs.Lengths.{Held};
 ghost use Rattle.turn.specs.Turns.{writes};
 
 // What a stage leaves of its task, and the report.

@@ -19,7 +19,7 @@ use Rattle.rules.specs.Shape.{hold, stageList}
 use Rattle.rules.specs.Stages.{takesEntry, links, swaps, stageDoes, decide}
 use Rattle.rules.proofs.Tests.{picked, picked-by, pick-same}
 use Rattle.rules.proofs.Stages.{stage-cases}
-use Rattle.stages.specs.Lengths.{Held}
+use Rattle.outcome.specs.Lengths.{Held}
 use Rattle.writes.specs.Placed.{Placed}
 
 -- ---- writes that name no chunk

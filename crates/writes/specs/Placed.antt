@@ -7,7 +7,7 @@ use Rattle.rules.specs.declared.Write.{Write}
 use Rattle.rules.specs.declared.Write.the-variants as write
 use Rattle.rules.specs.Tables.{chunkAt}
 use Rattle.rows.specs.Rows.{chunkRows}
-use Rattle.stages.specs.Lengths.{Chunks, Entries}
+use Rattle.outcome.specs.Lengths.{Chunks, Entries}
 
 -- the chunk and the entry are of their tables, and a chunk of which a slot is taken has one
 abbrev pub Placed : Sizes → List Chunk → Write → Type 0

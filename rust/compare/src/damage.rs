@@ -120,8 +120,9 @@ pub fn gentle(r: &mut Chance, w: &mut Words) {
         }
         11 => {
             let old = w[1][r.below(TASKS) * 11 + 7] as usize;
-            if let Some(mark) = w[5].get_mut(old) {
-                *mark ^= 1;
+            let table = r.of(&[4, 5]);
+            if let Some(word) = w[table].get_mut(old) {
+                *word = if table == 4 { r.word() } else { *word ^ 1 };
             }
         }
         12 => {

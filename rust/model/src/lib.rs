@@ -1,4 +1,4 @@
-//! A second implementation of document 01 and of request E1, in plain Rust with typed structs, written from those documents and
+//! A second implementation of document 01 and of requests E1 and E2, in plain Rust with typed structs, written from those documents and
 //! the header alone.
 
 mod calls;

@@ -20,15 +20,19 @@ impl Task {
         MovedOn(Task { stage, ..self })
     }
 
-    /// The key is absent to a get, a compute or a remove.
+    /// The key is absent to a get, a compute or a remove; a compute says so by false.
     fn finish_absent(self) -> Outcome {
-        Finished(if self.operation == Operation::Get { Answer::Absent } else { Answer::False })
+        Finished(match self.operation {
+            Operation::Compute => Answer::False,
+            _ => Answer::Absent,
+        })
     }
 
-    /// The change is made.
-    fn finish_changed(self) -> Outcome {
+    /// The change is made; a put answers what stood there.
+    fn finish_changed(self, former: Answer) -> Outcome {
         Finished(match self.operation {
-            Operation::Put | Operation::Upsert => Answer::Done,
+            Operation::Put => former,
+            Operation::Upsert => Answer::Done,
             _ => Answer::True,
         })
     }
@@ -96,10 +100,10 @@ impl Tables {
             (Stage::SwapAbsence, Some(_), _) => self.swap(task, chunk, entry, None, Stage::UnpublishAbsence),
             (Stage::SwapRemoval, Some(old), _) => self.swap_removal(task, chunk, entry, old),
             (Stage::Unpublish | Stage::UnpublishAbsence, _, _) if !task.swapped => Restarted(Restart::Lost),
-            (Stage::Unpublish, _, _) => task.finish_changed(),
+            (Stage::Unpublish, _, _) => task.finish_changed(Answer::Absent),
             (Stage::UnpublishAbsence, _, _) => task.finish_absent(),
             (Stage::ReadAgain, Some(old), _) if self.chunks[chunk].entries[entry].handle == Some(old) => task.at(Stage::PublishRemoval),
-            (Stage::ReadAgain | Stage::UnpublishRemoval, _, _) => Finished(Answer::True),
+            (Stage::ReadAgain | Stage::UnpublishRemoval, Some(old), _) => self.finish_removed(old),
             _ => Outcome::NoShape,
         }
     }
@@ -124,8 +128,13 @@ impl Tables {
                 entry: Some(entry),
                 ..task
             }),
-            None => Finished(Answer::True),
+            None => task.old.map_or(Outcome::NoShape, |old| self.finish_removed(old)),
         }
+    }
+
+    /// Stages 17, 18 and 21, where a removal ends: nobody stores into its deleted handle, so the value that it removed still stands there.
+    fn finish_removed(&self, old: HandleNo) -> Outcome {
+        Finished(Answer::Value(self.handles[old].value))
     }
 
     /// Stage 3: the entry's handle.
@@ -156,16 +165,17 @@ impl Tables {
     /// Stage 5: the change of an undeleted handle, in place.
     fn apply(&mut self, task: Task, old: HandleNo) -> Outcome {
         let handle = &mut self.handles[old];
+        let former = handle.value;
         match (task.operation, Function::from_number(task.function)) {
             (Operation::Put | Operation::Upsert, _) if handle.deleted => Restarted(Restart::Lost),
             _ if handle.deleted => task.at(Stage::PublishAbsence),
             (Operation::Put, _) => {
                 handle.value = task.argument;
-                task.finish_changed()
+                task.finish_changed(Answer::Value(former))
             }
             (Operation::Upsert | Operation::Compute, Some(function)) => {
-                handle.value = function.apply(handle.value, task.argument);
-                task.finish_changed()
+                handle.value = function.apply(former, task.argument);
+                task.finish_changed(Answer::Value(former))
             }
             (Operation::Remove, _) => {
                 handle.deleted = true;

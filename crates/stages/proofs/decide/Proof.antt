@@ -107,11 +107,11 @@ returns-10 c = let the-args = c .before .before .before .before .before .before 
 
 returns-11 : tie.Need-returns-11
 unfolding stageDoes
-returns-11 c = let the-args = c .before .before .before .before .before .before .before .before .args in c .find-again .ensures (the-args .directory .now) (the-args .tasks .now) (the-args .values .now) (the-args .marks .now) ∙ at 17 (the-args .n) (the-args .z) (tables (the-args .z) (the-args .directory .now) (the-args .tasks .now) (the-args .chunks .now) (the-args .entries .now) (the-args .values .now) (the-args .marks .now)) (the-args .t) (c .before .match .keys11)
+returns-11 c = let the-args = c .before .before .before .before .before .before .before .before .args in c .find-again .ensures (the-args .directory .now) (the-args .tasks .now) (the-args .marks .now) ∙ at 17 (the-args .n) (the-args .z) (tables (the-args .z) (the-args .directory .now) (the-args .tasks .now) (the-args .chunks .now) (the-args .entries .now) (the-args .values .now) (the-args .marks .now)) (the-args .t) (c .before .match .keys11)
 
 returns-12 : tie.Need-returns-12
 unfolding stageDoes
-returns-12 c = let the-args = c .before .before .before .before .before .before .before .before .args in c .read-again .ensures (the-args .directory .now) (the-args .tasks .now) (the-args .chunks .now) (the-args .values .now) (the-args .marks .now) ∙ at 18 (the-args .n) (the-args .z) (tables (the-args .z) (the-args .directory .now) (the-args .tasks .now) (the-args .chunks .now) (the-args .entries .now) (the-args .values .now) (the-args .marks .now)) (the-args .t) (c .before .match .keys12)
+returns-12 c = let the-args = c .before .before .before .before .before .before .before .before .args in c .read-again .ensures (the-args .directory .now) (the-args .tasks .now) (the-args .chunks .now) (the-args .marks .now) ∙ at 18 (the-args .n) (the-args .z) (tables (the-args .z) (the-args .directory .now) (the-args .tasks .now) (the-args .chunks .now) (the-args .entries .now) (the-args .values .now) (the-args .marks .now)) (the-args .t) (c .before .match .keys12)
 
 returns-13 : tie.Need-returns-13
 unfolding stageDoes
@@ -128,7 +128,7 @@ returns-16 : tie.Need-returns-16
 returns-16 c = let the-args = c .before .before .before .before .before .before .before .before .before .before .args in c .absence .ensures (the-args .n) (the-args .directory .now) (the-args .tasks .now) (the-args .values .now) (the-args .marks .now)
 
 returns-17 : tie.Need-returns-17
-returns-17 c = let the-args = c .before .before .before .before .before .before .before .before .before .before .before .args in c .removal .ensures (the-args .n) (the-args .directory .now) (the-args .tasks .now) (the-args .values .now) (the-args .marks .now)
+returns-17 c = let the-args = c .before .before .before .before .before .before .before .before .before .before .before .args in c .removal .ensures (the-args .n) (the-args .directory .now) (the-args .tasks .now) (the-args .marks .now)
 
 returns-18 : tie.Need-returns-18
 returns-18 c = absurd (crossed 24 _ (over 23 _ (over 22 _ (c .before .if3 .left) (c .before .before .before .before .match .rest .0 .1)) (c .before .before .before .before .match .rest .1)) (c .before .before .before .before .before .before .before .before .before .before .before .pre .2))

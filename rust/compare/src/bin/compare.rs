@@ -16,10 +16,12 @@ struct Met {
     reports: [u64; 13],
     refusals: [u64; 11],
     stages: [u64; 24],
+    /// puts and removes that answered a value, and absent
+    former: [[u64; 2]; 2],
 }
 
 impl Met {
-    fn count(&mut self, stage: u64, told: (u64, u64, u64)) {
+    fn count(&mut self, [stage, operation]: [u64; 2], told: (u64, u64, u64)) {
         self.calls += 1;
         self.reports[told.0 as usize] += 1;
         if told.0 == 0 {
@@ -28,6 +30,9 @@ impl Met {
         if stage < 24 {
             self.stages[stage as usize] += 1;
         }
+        if matches!((operation, told.0), (2 | 6, 6 | 7)) {
+            self.former[(operation == 6) as usize][told.0 as usize - 6] += 1;
+        }
     }
 
     fn print(&self, what: &str) {
@@ -35,6 +40,9 @@ impl Met {
         println!("  by report 0 to 12: {:?}", self.reports);
         println!("  by refusal 1 to 10: {:?}", &self.refusals[1..]);
         println!("  steps by stage 1 to 23: {:?}", &self.stages[1..]);
+        for (what, [value, absent]) in ["puts", "removes"].iter().zip(self.former) {
+            println!("  {what}: {value} answered a value, {absent} absent");
+        }
     }
 }
 
@@ -91,9 +99,9 @@ impl Pair {
     /// One call on both sides; stops the program where they differ.
     fn call(&mut self, host: &mut Host, seed: u64, call: Call, met: &mut Met) -> Report {
         copy(&mut self.before, &self.words);
-        let stage = match call {
-            Call::Step(n) if n < TASKS as u64 && self.words[1].len() == LENGTHS[1] => self.words[1][n as usize * 11],
-            _ => NONE,
+        let work = match call {
+            Call::Step(n) if n < TASKS as u64 && self.words[1].len() == LENGTHS[1] => [0, 1].map(|i| self.words[1][n as usize * 11 + i]),
+            _ => [NONE; 2],
         };
         let mut answer = [UNTOLD; 2];
         let number = host.call(&mut self.words, call, &mut answer);
@@ -120,7 +128,7 @@ impl Pair {
             differ(seed, call, "tables", self);
         }
         self.left_alone(seed, call, report);
-        met.count(stage, told);
+        met.count(work, told);
         report
     }
 

@@ -26,7 +26,7 @@ fn three_chunks() -> Tables {
     let mut tables = with_keys(17);
     rebalance_all(&mut tables, 1);
     for key in 18..=26 {
-        assert_eq!(whole(&mut tables, 0, PUT, key, key * 10, 0).1, DONE);
+        assert_eq!(whole(&mut tables, 0, PUT, key, key * 10, 0).1, ABSENT);
     }
     rebalance_all(&mut tables, 10);
     assert_eq!(
@@ -84,7 +84,7 @@ fn an_empty_range_takes_two_steps() {
 fn a_fill_reports_moved_on_where_it_takes_nothing() {
     let mut tables = three_chunks();
     for key in 10..=18 {
-        assert_eq!(whole(&mut tables, 0, REMOVE, key, 0, 0).1, TRUE);
+        assert_eq!(whole(&mut tables, 0, REMOVE, key, 0, 0).1, value(key * 10));
     }
     rebalance_all(&mut tables, 10);
     let mut told: Vec<Report> = filled((19..=26).rev()).collect();
@@ -98,7 +98,7 @@ fn a_fill_reports_moved_on_where_it_takes_nothing() {
 fn the_ends_of_the_keys() {
     let mut tables = Tables::fresh();
     for key in [0, 1, u64::MAX - 1, u64::MAX] {
-        assert_eq!(whole(&mut tables, 0, PUT, key, key, 0).1, DONE);
+        assert_eq!(whole(&mut tables, 0, PUT, key, key, 0).1, ABSENT);
     }
     let pair = |key| Report::Pair(key, key);
     assert_eq!(down(&mut tables, 0, u64::MAX), [Report::MovedOn, pair(u64::MAX - 1), pair(1), pair(0), DONE]);
@@ -127,15 +127,15 @@ fn what_changes_after_a_fill() {
     let mut tables = with_keys(4);
     start(&mut tables, 7, SCAN_DOWN, 0, 10, 0);
     steps(&mut tables, 7, 1);
-    assert_eq!(whole(&mut tables, 0, PUT, 6, 60, 0).1, DONE);
-    assert_eq!(whole(&mut tables, 0, PUT, 4, 44, 0).1, DONE);
+    assert_eq!(whole(&mut tables, 0, PUT, 6, 60, 0).1, ABSENT);
+    assert_eq!(whole(&mut tables, 0, PUT, 4, 44, 0).1, value(40));
     assert_eq!(tables.step(7), Report::Pair(4, 44));
-    assert_eq!(whole(&mut tables, 0, REMOVE, 3, 0, 0).1, TRUE);
+    assert_eq!(whole(&mut tables, 0, REMOVE, 3, 0, 0).1, value(30));
     start(&mut tables, 1, REMOVE, 2, 0, 0);
     steps(&mut tables, 1, 5);
     steps(&mut tables, 7, 2);
-    assert_eq!(whole(&mut tables, 0, REMOVE, 1, 0, 0).1, TRUE);
-    assert_eq!(whole(&mut tables, 0, PUT, 1, 11, 0).1, DONE);
+    assert_eq!(whole(&mut tables, 0, REMOVE, 1, 0, 0).1, value(10));
+    assert_eq!(whole(&mut tables, 0, PUT, 1, 11, 0).1, ABSENT);
     assert_eq!(reports(&mut tables, 7), [Report::Pair(1, 11), DONE]);
 }
 
@@ -152,10 +152,10 @@ fn a_retired_chunk_is_gone_through_and_release_waits() {
     }
     let chain: Vec<_> = tables.chain().collect();
     assert_eq!((chain, tables.chunks[0].status), (vec![1, 2, 3], Status::Retired));
-    assert_eq!(whole(&mut tables, 0, PUT, 16, 1, 0).1, DONE);
-    assert_eq!(whole(&mut tables, 0, REMOVE, 15, 0, 0).1, TRUE);
-    assert_eq!(whole(&mut tables, 0, REMOVE, 14, 0, 0).1, TRUE);
-    assert_eq!(whole(&mut tables, 0, PUT, 14, 2, 0).1, DONE);
+    assert_eq!(whole(&mut tables, 0, PUT, 16, 1, 0).1, value(160));
+    assert_eq!(whole(&mut tables, 0, REMOVE, 15, 0, 0).1, value(150));
+    assert_eq!(whole(&mut tables, 0, REMOVE, 14, 0, 0).1, value(140));
+    assert_eq!(whole(&mut tables, 0, PUT, 14, 2, 0).1, ABSENT);
     assert_eq!(tables.step(7), Report::Pair(16, 1));
     steps(&mut tables, 7, 2);
     for key in (10..=13).rev() {
@@ -196,7 +196,7 @@ fn chunks_split_below_are_found_by_their_keys() {
     start(&mut tables, 7, SCAN_DOWN, 0, u64::MAX, 0);
     steps(&mut tables, 7, 1);
     for key in 100..=108 {
-        assert_eq!(whole(&mut tables, 0, PUT, key - 82, key, 0).1, DONE);
+        assert_eq!(whole(&mut tables, 0, PUT, key - 82, key, 0).1, value((key - 82) * 10));
     }
     rebalance_all(&mut tables, 10);
     rebalance_all(&mut tables, 0);

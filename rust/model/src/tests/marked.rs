@@ -22,25 +22,25 @@ fn m2_put_if_absent_is_true_at_step_9_with_handle_0() {
 }
 
 #[test]
-fn m3_put_takes_5_steps_and_get_4() {
+fn m3_put_answers_50_at_step_5_and_get_60_at_4() {
     let mut tables = after_m2();
-    assert_eq!(whole(&mut tables, 0, PUT, 5, 60, 0), (5, DONE));
-    assert_eq!(whole(&mut tables, 0, GET, 5, 0, 0), (4, Report::Finished(Answer::Value(60))));
+    assert_eq!(whole(&mut tables, 0, PUT, 5, 60, 0), (5, value(50)));
+    assert_eq!(whole(&mut tables, 0, GET, 5, 0, 0), (4, value(60)));
 }
 
 #[test]
-fn m4_remove_is_true_at_step_11_then_false_at_3() {
+fn m4_remove_answers_50_at_step_11_then_absent_at_3() {
     let mut tables = after_m2();
-    assert_eq!(whole(&mut tables, 0, REMOVE, 5, 0, 0), (11, TRUE));
-    assert_eq!(whole(&mut tables, 0, REMOVE, 5, 0, 0), (3, FALSE));
+    assert_eq!(whole(&mut tables, 0, REMOVE, 5, 0, 0), (11, value(50)));
+    assert_eq!(whole(&mut tables, 0, REMOVE, 5, 0, 0), (3, ABSENT));
 }
 
 #[test]
 fn m5_add_wraps() {
     let mut tables = Tables::fresh();
-    assert_eq!(whole(&mut tables, 0, PUT, 5, u64::MAX, 0), (9, DONE));
+    assert_eq!(whole(&mut tables, 0, PUT, 5, u64::MAX, 0), (9, ABSENT));
     assert_eq!(whole(&mut tables, 0, COMPUTE, 5, 1, 1), (5, TRUE));
-    assert_eq!(whole(&mut tables, 0, GET, 5, 0, 0), (4, Report::Finished(Answer::Value(0))));
+    assert_eq!(whole(&mut tables, 0, GET, 5, 0, 0), (4, value(0)));
 }
 
 #[test]
@@ -48,11 +48,11 @@ fn m6_a_held_handle_is_not_free() {
     let mut tables = after_m2();
     start(&mut tables, 0, GET, 5, 0, 0);
     steps(&mut tables, 0, 3);
-    assert_eq!(whole(&mut tables, 1, REMOVE, 5, 0, 0), (11, TRUE));
-    assert_eq!(whole(&mut tables, 2, PUT, 9, 90, 0), (9, DONE));
+    assert_eq!(whole(&mut tables, 1, REMOVE, 5, 0, 0), (11, value(50)));
+    assert_eq!(whole(&mut tables, 2, PUT, 9, 90, 0), (9, ABSENT));
     assert_eq!(tables.chunks[0].entries[1].handle, Some(1));
     assert_eq!(tables.step(0), ABSENT);
-    assert_eq!(whole(&mut tables, 3, PUT, 11, 110, 0), (9, DONE));
+    assert_eq!(whole(&mut tables, 3, PUT, 11, 110, 0), (9, ABSENT));
     assert_eq!(tables.chunks[0].entries[2].handle, Some(0));
 }
 
@@ -78,7 +78,7 @@ fn m8_drain_waits_for_a_publisher() {
     let before = tables.clone();
     assert_eq!(tables.rebalance(), Report::Waiting);
     assert_eq!(tables, before);
-    assert_eq!(run(&mut tables, 0), (2, DONE));
+    assert_eq!(run(&mut tables, 0), (2, ABSENT));
     assert_eq!(tables.rebalance(), Report::MovedOn);
     assert_eq!(tables.rebalance(), Report::MovedOn);
     assert_eq!(tables.rebalance, Rebalance::SwapIn(0, 1, None));
@@ -94,14 +94,14 @@ fn m9_release_waits_for_a_reader() {
     for _ in 0..3 {
         assert_eq!(tables.rebalance(), Report::MovedOn);
     }
-    assert_eq!(whole(&mut tables, 1, PUT, 5, 50, 0), (9, DONE));
+    assert_eq!(whole(&mut tables, 1, PUT, 5, 50, 0), (9, ABSENT));
     let before = tables.clone();
     assert_eq!(tables.rebalance(), Report::Waiting);
     assert_eq!(tables, before);
     assert_eq!(tables.step(0), ABSENT);
     assert_eq!(tables.rebalance(), Report::Released);
     assert_eq!(tables.chunks[0], Chunk::default());
-    assert_eq!(whole(&mut tables, 0, GET, 5, 0, 0), (4, VALUE_50));
+    assert_eq!(whole(&mut tables, 0, GET, 5, 0, 0), (4, value(50)));
 }
 
 #[test]

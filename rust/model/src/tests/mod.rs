@@ -1,5 +1,7 @@
 //! Helpers of the tests, and the tests by kind.
+mod answers;
 mod down;
+mod former;
 mod marked;
 mod random;
 mod refused;
@@ -20,7 +22,6 @@ pub const REMOVE: u64 = 6;
 pub const SCAN: u64 = 7;
 pub const SCAN_DOWN: u64 = 8;
 
-pub const VALUE_50: Report = Report::Finished(Answer::Value(50));
 pub const ABSENT: Report = Report::Finished(Answer::Absent);
 pub const DONE: Report = Report::Finished(Answer::Done);
 pub const TRUE: Report = Report::Finished(Answer::True);
@@ -28,6 +29,11 @@ pub const FALSE: Report = Report::Finished(Answer::False);
 pub const FROZEN: Report = Report::Restarted(Restart::Frozen);
 pub const FULL: Report = Report::Restarted(Restart::Full);
 pub const LOST: Report = Report::Restarted(Restart::Lost);
+
+/// An operation ends with a value.
+pub const fn value(value: u64) -> Report {
+    Report::Finished(Answer::Value(value))
+}
 
 /// Starts an operation that must be taken.
 pub fn start(tables: &mut Tables, n: u64, operation: u64, key: u64, argument: u64, function: u64) {
@@ -80,7 +86,7 @@ pub fn after_m2() -> Tables {
 pub fn with_keys(count: u64) -> Tables {
     let mut tables = Tables::fresh();
     for key in 1..=count {
-        assert_eq!(whole(&mut tables, 0, PUT, key, key * 10, 0), (9, DONE));
+        assert_eq!(whole(&mut tables, 0, PUT, key, key * 10, 0), (9, ABSENT));
     }
     tables
 }

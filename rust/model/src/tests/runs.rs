@@ -17,7 +17,7 @@ fn put(tables: &mut Tables, n: u64, key: u64) -> Report {
 fn with_many(count: u64) -> Tables {
     let mut tables = Tables::fresh();
     for key in 0..count {
-        assert_eq!(put(&mut tables, 0, key), DONE);
+        assert_eq!(put(&mut tables, 0, key), ABSENT);
     }
     assert_eq!(map(&tables).len() as u64, count);
     tables
@@ -54,13 +54,13 @@ pub fn with_all_handles() -> Tables {
 fn all_560_keys_can_be_present() {
     let mut tables = Tables::fresh();
     for key in (0..560).map(|number| number * 331 % 560) {
-        assert_eq!(put(&mut tables, 1, key), DONE, "key {key}");
+        assert_eq!(put(&mut tables, 1, key), ABSENT, "key {key}");
     }
     assert_eq!(map(&tables).len(), 560);
     assert_eq!(put(&mut tables, 1, 5000), Report::Refused(9));
     assert_eq!(map(&tables).len(), 560);
-    assert_eq!(whole(&mut tables, 0, REMOVE, 7, 0, 0).1, TRUE);
-    assert_eq!(put(&mut tables, 1, 5000), DONE);
+    assert_eq!(whole(&mut tables, 0, REMOVE, 7, 0, 0).1, value(7));
+    assert_eq!(put(&mut tables, 1, 5000), ABSENT);
 }
 
 #[test]
@@ -71,10 +71,10 @@ fn the_512th_key_with_every_other_task_holding_two_handles() {
     }
     assert_eq!(map(&tables).len(), 504);
     for n in 1..8 {
-        assert_eq!(put(&mut tables, 0, n * 70), DONE);
+        assert_eq!(put(&mut tables, 0, n * 70), ABSENT);
     }
     assert_eq!(map(&tables).len(), 511);
-    assert_eq!(put_amid(&mut tables, 900), DONE);
+    assert_eq!(put_amid(&mut tables, 900), ABSENT);
     assert_eq!(map(&tables).len(), 512);
 }
 
@@ -87,7 +87,7 @@ fn hold_two(tables: &mut Tables, n: u64, key: u64) {
     steps(tables, n, 1);
     assert_eq!(stage(tables, n as usize), 8);
     steps(tables, n, 1);
-    assert_eq!(finish(tables, 0).1, TRUE);
+    assert_eq!(finish(tables, 0).1, value(key));
     let task = tables.tasks[n as usize].unwrap();
     assert!(task.old.is_some() && task.new.is_some());
 }
@@ -107,22 +107,22 @@ fn put_amid(tables: &mut Tables, key: u64) -> Report {
 
 #[test]
 fn apply_after_a_removal() {
-    for (operation, steps_to_end, answer) in [(PUT, 0, LOST), (UPSERT, 0, LOST), (COMPUTE, 13, FALSE), (REMOVE, 13, FALSE)] {
+    for (operation, restarts, answer) in [(PUT, true, ABSENT), (UPSERT, true, DONE), (COMPUTE, false, FALSE), (REMOVE, false, ABSENT)] {
         let mut tables = after_m2();
         start(&mut tables, 1, operation, 5, 7, 1);
         steps(&mut tables, 1, 4);
         start(&mut tables, 0, REMOVE, 5, 0, 0);
         steps(&mut tables, 0, 5);
         assert_eq!(stage(&tables, 0), 16);
-        if steps_to_end == 0 {
-            assert_eq!(tables.step(1), answer);
-            assert_eq!(finish(&mut tables, 1).1, DONE);
+        if restarts {
+            assert_eq!(tables.step(1), LOST);
+            assert_eq!(finish(&mut tables, 1).1, answer);
             assert_eq!(map(&tables)[&5], 7);
         } else {
             assert_eq!(run(&mut tables, 1), (4, answer));
             assert_eq!(tables.chunks[0].entries[0].handle, None);
         }
-        assert_eq!(finish(&mut tables, 0).1, TRUE);
+        assert_eq!(finish(&mut tables, 0).1, value(50));
     }
 }
 
@@ -134,7 +134,7 @@ fn an_absence_lost_restarts() {
     start(&mut tables, 1, COMPUTE, 5, 1, 1);
     steps(&mut tables, 1, 4);
     assert_eq!(stage(&tables, 1), 13);
-    assert_eq!(run(&mut tables, 0), (6, TRUE));
+    assert_eq!(run(&mut tables, 0), (6, value(50)));
     assert_eq!(run(&mut tables, 1), (3, LOST));
     assert_eq!(run(&mut tables, 1), (3, FALSE));
 }
@@ -152,7 +152,7 @@ fn a_removal_on_a_frozen_chunk_goes_back_to_16() {
     for _ in 0..3 {
         assert_eq!(tables.rebalance(), Report::MovedOn);
     }
-    assert_eq!(run(&mut tables, 0), (6, TRUE));
+    assert_eq!(run(&mut tables, 0), (6, value(50)));
     assert_eq!(tables.chunks[1].entries[0].handle, None);
     assert_eq!(tables.chunks[0].entries[0].handle, Some(0));
     assert_eq!(tables.lowest_free(), Some(1));
@@ -187,7 +187,7 @@ fn functions() {
 fn a_scan_goes_through_the_chunks() {
     let mut tables = with_many(100);
     assert!(tables.chain().count() > 3);
-    assert_eq!(whole(&mut tables, 1, REMOVE, 50, 0, 0).1, TRUE);
+    assert_eq!(whole(&mut tables, 1, REMOVE, 50, 0, 0).1, value(50));
     start(&mut tables, 0, SCAN, 10, u64::MAX, 0);
     let mut pairs = Vec::new();
     loop {
@@ -205,10 +205,10 @@ fn a_scan_goes_through_the_chunks() {
 fn the_last_key_can_be_scanned_only_to_below_the_upper_end() {
     let mut tables = Tables::fresh();
     for key in [u64::MAX - 1, u64::MAX] {
-        assert_eq!(put(&mut tables, 0, key), DONE);
+        assert_eq!(put(&mut tables, 0, key), ABSENT);
     }
     assert_eq!(whole(&mut tables, 0, SCAN, 0, u64::MAX, 0), (1, Report::Pair(u64::MAX - 1, u64::MAX - 1)));
     assert_eq!(tables.tasks[0].map(|task| task.key), Some(u64::MAX));
     assert_eq!(tables.step(0), DONE);
-    assert_eq!(whole(&mut tables, 0, GET, u64::MAX, 0, 0), (4, Report::Finished(Answer::Value(u64::MAX))));
+    assert_eq!(whole(&mut tables, 0, GET, u64::MAX, 0, 0), (4, value(u64::MAX)));
 }

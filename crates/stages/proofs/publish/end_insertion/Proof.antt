@@ -20,9 +20,23 @@ finishes-requires-2 : tie.Need-finishes-requires-2
 finishes-requires-2 c κs = search needs
 
 returns-3 : tie.Need-returns-3
-returns-3 c = λ z s. rw (ne-eqb _ _ (c .before .before .before .if1 .left), ne-eqb _ _ (c .before .if2 .left)) (c .finishes2 .ensures)
+returns-3 c = λ z s. rw (ne-eqb _ _ (c .before .before .before .before .before .if1 .left), ne-eqb _ _ (c .before .before .before .if2 .left), eq-eqb _ _ (c .before .if3 .taken)) (c .finishes2 .ensures)
+
+finishes-requires-3 : tie.Need-finishes-requires-3
+finishes-requires-3 c κs = search needs
+
+returns-4 : tie.Need-returns-4
+returns-4 c = λ z s. rw (ne-eqb _ _ (c .before .before .before .before .before .if1 .left), ne-eqb _ _ (c .before .before .before .if2 .left), ne-eqb _ _ (c .before .if3 .left)) (c .finishes3 .ensures)
 
 pub end-insertion-spec : {M : Type 1} → statement M
 end-insertion-spec =
     tie.close
-    (tie.spec restarts-requires returns finishes-requires returns-2 finishes-requires-2 returns-3)
+    (tie.spec
+    restarts-requires
+    returns
+    finishes-requires
+    returns-2
+    finishes-requires-2
+    returns-3
+    finishes-requires-3
+    returns-4)

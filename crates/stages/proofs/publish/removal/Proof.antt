@@ -13,21 +13,21 @@ publish-requires c κs = search needs
 
 returns : tie.Need-returns
 unfolding stageDoes
-returns c = let the-args = c .before .before .before .before .before .args in λ n d ts vs ms. let s = tables (the-args .z) d ts (the-args .chunks .now) (the-args .entries .now) vs ms in c .publish .ensures d ts (the-args .entries .now) vs ms ∙ at 19 n (the-args .z) s (the-args .t) (c .before .if1 .taken)
+returns c = let the-args = c .before .before .before .before .before .before .args in λ n d ts ms. let s = tables (the-args .z) d ts (the-args .chunks .now) (the-args .entries .now) (the-args .values .now) ms in c .publish .ensures d ts (the-args .entries .now) (the-args .values .now) ms ∙ at 19 n (the-args .z) s (the-args .t) (c .before .if1 .taken)
 
 swap-requires : tie.Need-swap-requires
-swap-requires c κs = let the-pre = c .before .before .before .before .before .before .pre in (both-held 20 _ _ (the-pre .0) (c .if2 .taken) refl refl, the-pre .2, omega arith)
+swap-requires c κs = let the-pre = c .before .before .before .before .before .before .before .pre in (both-held 20 _ _ (the-pre .0) (c .if2 .taken) refl refl, the-pre .2, omega arith)
 
 returns-2 : tie.Need-returns-2
 unfolding stageDoes
-returns-2 c = let the-args = c .before .before .before .before .before .before .before .args in λ n d ts vs ms. let s = tables (the-args .z) d ts (the-args .chunks .now) (the-args .entries .now) vs ms in c .swap .ensures d ts (the-args .chunks .now) vs ms ∙ at 20 n (the-args .z) s (the-args .t) (c .before .if2 .taken)
+returns-2 c = let the-args = c .before .before .before .before .before .before .before .before .args in λ n d ts ms. let s = tables (the-args .z) d ts (the-args .chunks .now) (the-args .entries .now) (the-args .values .now) ms in c .swap .ensures d ts (the-args .chunks .now) (the-args .values .now) ms ∙ at 20 n (the-args .z) s (the-args .t) (c .before .if2 .taken)
 
 end-remove-requires : tie.Need-end-remove-requires
 end-remove-requires c κs = search needs
 
 returns-3 : tie.Need-returns-3
 unfolding stageDoes
-returns-3 c = let the-args = c .before .before .before .before .before .before .before .args in λ n d ts vs ms. let s = tables (the-args .z) d ts (the-args .chunks .now) (the-args .entries .now) vs ms in c .end-remove .ensures (the-args .z) s ∙ at 21 n (the-args .z) s (the-args .t) (omega arith)
+returns-3 c = let the-args = c .before .before .before .before .before .before .before .before .args in λ n d ts ms. let s = tables (the-args .z) d ts (the-args .chunks .now) (the-args .entries .now) (the-args .values .now) ms in c .end-remove .ensures (the-args .z) d ts (the-args .chunks .now) (the-args .entries .now) ms ∙ at 21 n (the-args .z) s (the-args .t) (omega arith)
 
 pub removal-spec : {M : Type 1} → statement M
 removal-spec =
