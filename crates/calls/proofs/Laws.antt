@@ -2,10 +2,9 @@
 use Prim.Native.Nat.{ℕ, _+_, _*_}
 use mathlib.Core.Path.{_≡_, refl, sym, ap, _∙_}
 use mathlib.Core.Bool.{Bool, true, false, true≢false}
-use mathlib.Core.List.{List}
 use lib.Dec.{eqb}
 use lib.ListN.{length}
-use borrow.Author.Tests.{eqb-true, eq-eqb}
+use borrow.Author.Tests.{eqb-true}
 use Rattle.rules.specs.declared.Sizes.{Sizes}
 use Rattle.rules.specs.declared.Report.{Report}
 use Rattle.rules.specs.declared.Report.the-variants as report
@@ -13,7 +12,7 @@ use Rattle.rules.specs.Words.{_and_}
 use Rattle.rules.specs.Told.{told}
 use Rattle.rules.specs.Shape.{shape}
 use Rattle.rules.specs.Calls.{Call, fresh, does, calls}
-use Rattle.rules.proofs.Tests.{and-left, and-right, both}
+use Rattle.rules.proofs.Tests.{and-left, and-right}
 use Rattle.rows.specs.Rows.{Lent}
 use Rattle.calls.specs.Promise.{Lending, tablesOf, lent, Promise, Makes}
 
@@ -35,10 +34,6 @@ lent-lengths z w t =
       values = leading (length (w .values)) (z .handles) _ a4;
       marks = eqb-true (length (w .marks)) (z .handles) (and-right (eqb (length (w .values)) (z .handles)) _ a4);
     }
-
-pub lengths-lent : (z : Sizes) (w : Lending) → Lent z (w .directory) (w .tasks) (w .chunks) (w .entries) (w .values) (w .marks) → lent z w ≡ true
-lengths-lent z w l =
-    rw (eq-eqb _ _ (l .directory), eq-eqb _ _ (l .tasks), eq-eqb _ _ (l .chunks), eq-eqb _ _ (l .entries), eq-eqb _ _ (l .values), eq-eqb _ _ (l .marks))
 
 module _ (z : Sizes) (c : Call) (before : Lending) where
   -- the words are not lent as asked, or fail the shape

@@ -205,12 +205,6 @@ module _ (z : Sizes) (lim : Limited z) (d : Directory) (cs : List Chunk) (es : L
 
   -- ---- at the head
   module _ (b : z .entries ≤ before .0) where
-    no-place : before ≡ noEntry
-    no-place = ⊎-elim (λ p. p) (λ m. absurd (never m)) (List·Memᴰ·cases-cons (Memᴰ·cast (w .placed) (place-in z es c (chunkAt cs c .used) (h .lists c (w .numbered) .row .used) (lim .entries) (z .entries) 0 noEntry (chunkAt cs c .head) (listed z cs es c) k (h .lists c (w .numbered) .links))))
-      where
-        never : List·Memᴰ before (listed z cs es c) → ⊥
-        never m = omega (arith, b, inside z lim d cs es h c (w .numbered) before m)
-
     many : c .0 < length cs
     many = rw (h .chunks-sized) (w .numbered)
 

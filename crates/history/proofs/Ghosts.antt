@@ -157,7 +157,7 @@ module _ (z : Sizes) (lim : Limited z) (run : ℕ → Call) (n op k a f j : ℕ)
 
       -- past its deciding step it answers as before: the value that it replaces stays
       stays : past t ≡ true → changeAnswer s t ≡ changeAnswer (tablesAt z run (suc (suc i))) t
-      stays is = sym (subst (λ (x : Tables). changeAnswer x t ≡ changeAnswer s t) (sym (tables-next z run (suc i))) (answer-like s (calls z s (run (suc i)) .tables) t t refl refl (λ _. value-stays z lim s (run-reached z run (suc i)) (run (suc i)) n (λ (e : t .stage ≡ 4). false≢true (rw e at is)) (λ (e : t .stage ≡ 5). false≢true (rw e at is)))))
+      stays is = sym (subst (λ (x : Tables). changeAnswer x t ≡ changeAnswer s t) (sym (tables-next z run (suc i))) (answer-like s (calls z s (run (suc i)) .tables) t t refl refl (value-stays z lim s (run-reached z run (suc i)) (run (suc i)) n (λ (e : t .stage ≡ 4). false≢true (rw e at is)) (λ (e : t .stage ≡ 5). false≢true (rw e at is)))))
 
       rests-ghost : GhostOf (suc i) t
       rests-ghost =

@@ -47,9 +47,9 @@ use Rattle.history.proofs.Shown.{live-absent, entry-named}
 abbrev goesBy : Task → ℕ → ChunkNo → EntryNo → HandleNo → HandleNo → ℕ → ℕ → Write → Report → Decision
 goesBy t m c e o h p w wr rep = record { task = Stages.goesTo t m c e o h p w; write = wr; report = rep }
 
--- two rows of one operation answer their change alike where both replace a value, the same, or both none
-pub answer-like : (s s₁ : Tables) (t t₁ : Task) → t₁ .operation ≡ t .operation → replaces (t₁ .stage) ≡ replaces (t .stage) → (replaces (t .stage) ≡ true → value s₁ (t₁ .old) ≡ value s (t .old)) → changeAnswer s₁ t₁ ≡ changeAnswer s t
-answer-like s s₁ t t₁ same at v = rw (same, at) (by-test (replaces (t .stage)) (λ q. rw (q, v q) refl) (λ q. rw q refl))
+-- two rows of one operation answer their change alike where both replace a value or both none, and their old handles have the same
+pub answer-like : (s s₁ : Tables) (t t₁ : Task) → t₁ .operation ≡ t .operation → replaces (t₁ .stage) ≡ replaces (t .stage) → value s₁ (t₁ .old) ≡ value s (t .old) → changeAnswer s₁ t₁ ≡ changeAnswer s t
+answer-like s s₁ t t₁ same at v = rw (same, at, v) refl
 
 -- get, compute and remove answer on an absent key as they do where they have seen none
 absent-answer : (op k a f : ℕ) → inserts op ≡ false → (m : List Pair) → onAbsent m op k a f ≡ effect (pick (eqb op compute) report.False report.Absent) m
@@ -100,12 +100,12 @@ module _ (z : Sizes) (lim : Limited z) (s : Tables) (r : Reached z s) (n : ℕ) 
   nowhere x q (Gone.chunk i _) = absurd (false≢true (sym (or-left (looksIn (x .task .stage)) (looksOld (x .task .stage)) q) ∙ i))
   nowhere x q (Gone.old i _) = absurd (false≢true (sym (or-right (looksIn (x .task .stage)) (looksOld (x .task .stage)) q) ∙ i))
 
-  -- it holds the same handle, whose value stays, at a stage that replaces as stage k does
-  abbrev HoldsOn : ℕ → Decision → Type 0
-  HoldsOn k x = (replaces (x .task .stage) ≡ replaces k) × (x .task .operation ≡ t .operation) × (x .task .old ≡ t .old) × (stepped z s n x .values ≡ s .values)
+  -- it holds the same handle, whose value stays, at a stage that replaces as this one does
+  abbrev HoldsOn : Decision → Type 0
+  HoldsOn x = (replaces (x .task .stage) ≡ replaces (t .stage)) × (x .task .operation ≡ t .operation) × (x .task .old ≡ t .old) × (stepped z s n x .values ≡ s .values)
 
-  carried : (k : ℕ) (x : Decision) → t .stage ≡ k → HoldsOn k x → Carries z s n x
-  carried k x e (q, op, old, values) = answer-like s (stepped z s n x) t (x .task) op (q ∙ sym (ap replaces e)) (λ _. ap (λ (l : List ℕ). getD l (x .task .old .0) 0) values ∙ ap (λ (h : HandleNo). value s h) old)
+  carried : (x : Decision) → HoldsOn x → Carries z s n x
+  carried x (same, op, old, values) = answer-like s (stepped z s n x) t (x .task) op same (ap (λ (l : List ℕ). getD l (x .task .old .0) 0) values ∙ ap (λ (h : HandleNo). value s h) old)
 
   module _ {m : ℕ} {c : ChunkNo} {e : EntryNo} {o h : HandleNo} {p w : ℕ} {wr : Write} {rep : Report} where
     onward : eqb m 0 ≡ false → ending rep ≡ false → Onward t (goesBy t m c e o h p w wr rep)
@@ -120,12 +120,12 @@ module _ (z : Sizes) (lim : Limited z) (s : Tables) (r : Reached z s) (n : ℕ) 
     away st q ne quiet = goes st q (or-left (eqb m 0) (looksIn m or looksOld m) ne) quiet (nowhere (goesBy t m c e o h p w wr rep) (or-right (eqb m 0) (looksIn m or looksOld m) ne))
 
     -- to one past the deciding step
-    turning : {k : ℕ} → t .stage ≡ k → HoldsOn k (goesBy t m c e o h p w wr rep) → past t ≡ false → past (Stages.goesTo t m c e o h p w) ≡ true → decides z s t ≡ true → isScan (t .operation) ≡ false → (eqb m 0 or (looksIn m or looksOld m)) ≡ false → ending rep ≡ false → By (goesBy t m c e o h p w wr rep)
-    turning at hold was is d u ne quiet = Goes.turns (onward (or-left (eqb m 0) (looksIn m or looksOld m) ne) quiet) was (is, carried _ (goesBy t m c e o h p w wr rep) at hold) d u (nowhere (goesBy t m c e o h p w wr rep) (or-right (eqb m 0) (looksIn m or looksOld m) ne))
+    turning : HoldsOn (goesBy t m c e o h p w wr rep) → past t ≡ false → past (Stages.goesTo t m c e o h p w) ≡ true → decides z s t ≡ true → isScan (t .operation) ≡ false → (eqb m 0 or (looksIn m or looksOld m)) ≡ false → ending rep ≡ false → By (goesBy t m c e o h p w wr rep)
+    turning hold was is d u ne quiet = Goes.turns (onward (or-left (eqb m 0) (looksIn m or looksOld m) ne) quiet) was (is, carried (goesBy t m c e o h p w wr rep) hold) d u (nowhere (goesBy t m c e o h p w wr rep) (or-right (eqb m 0) (looksIn m or looksOld m) ne))
 
     -- from one past it to another
-    along : {k : ℕ} → t .stage ≡ k → HoldsOn k (goesBy t m c e o h p w wr rep) → Stands true → past (Stages.goesTo t m c e o h p w) ≡ true → (eqb m 0 or (looksIn m or looksOld m)) ≡ false → ending rep ≡ false → By (goesBy t m c e o h p w wr rep)
-    along at hold st q ne quiet = Goes.on (onward (or-left (eqb m 0) (looksIn m or looksOld m) ne) quiet) (q ∙ sym (st .0), λ _. carried _ (goesBy t m c e o h p w wr rep) at hold) (st .1) (nowhere (goesBy t m c e o h p w wr rep) (or-right (eqb m 0) (looksIn m or looksOld m) ne))
+    along : HoldsOn (goesBy t m c e o h p w wr rep) → Stands true → past (Stages.goesTo t m c e o h p w) ≡ true → (eqb m 0 or (looksIn m or looksOld m)) ≡ false → ending rep ≡ false → By (goesBy t m c e o h p w wr rep)
+    along hold st q ne quiet = Goes.on (onward (or-left (eqb m 0) (looksIn m or looksOld m) ne) quiet) (q ∙ sym (st .0), λ _. carried (goesBy t m c e o h p w wr rep) hold) (st .1) (nowhere (goesBy t m c e o h p w wr rep) (or-right (eqb m 0) (looksIn m or looksOld m) ne))
 
     -- with the same handle in hand
     still : Stands false → past (Stages.goesTo t m c e o h p w) ≡ false → (eqb m 0 or looksIn m) ≡ false → ending rep ≡ false → looksOld (t .stage) ≡ true → o ≡ t .old → stepped z s n (goesBy t m c e o h p w wr rep) .marks ≡ s .marks → By (goesBy t m c e o h p w wr rep)
@@ -155,7 +155,7 @@ module _ (z : Sizes) (lim : Limited z) (s : Tables) (r : Reached z s) (n : ℕ) 
       found : Follows z s n (Stages.moves (Stages.goesTo t 2 (locate z s (t .key)) noEntry (t .old) noHandle 0 0) write.Nothing)
       found (Gone.chunk q gone) = inr (λ v p. live-absent z lim s r (locate z s (t .key)) (t .key) (covers z lim s kept (t .key) .0) (covers z lim s kept (t .key) .1) (λ y. gone (shown-put _ y)) v (present-put _ p))
       found (Gone.old q d) = absurd (false≢true q)
-  locates-goes (inr e) = rw e (along e (refl, refl, refl, refl) (stands 16 e refl refl) refl refl refl)
+  locates-goes (inr e) = rw e (along (rw e refl, refl, refl, refl) (stands 16 e refl refl) refl refl refl)
 
   -- ---- 2 and 3
   module _ (e : t .stage ≡ 2) where
@@ -221,7 +221,7 @@ module _ (z : Sizes) (lim : Limited z) (s : Tables) (r : Reached z s) (n : ℕ) 
     applies-goes : By (Stages.applies z s t)
     applies-goes =
         picked By (eqb (mark s (t .old)) 0)
-        (λ d. picked By (eqb (t .operation) remove) (λ q. turning e (refl, refl, refl, refl) early refl (rw (e, d) refl) unscanned refl refl)
+        (λ d. picked By (eqb (t .operation) remove) (λ q. turning (rw e refl, refl, refl, refl) early refl (rw (e, d) refl) unscanned refl refl)
         (λ nr. picked By (eqb (t .operation) put) (λ q. Goes.answers refl refl (Ends.changes early (rw (e, d) refl) unscanned (rw (e, eqb-true (t .operation) put q) refl))) (λ np. Goes.answers refl (picked (λ (v : Report). isAnswer v ≡ true) (eqb (t .operation) compute) (λ _. refl) (λ _. refl)) (Ends.changes early (rw (e, d) refl) unscanned (answers-five nr np)))))
         (λ d. picked By (inserts (t .operation)) (λ _. restarts (early, rw (e, d) refl) report.Lost refl) (λ _. still (early, rw (e, d) refl) refl refl refl (rw e refl) refl refl))
       where
@@ -246,11 +246,11 @@ module _ (z : Sizes) (lim : Limited z) (s : Tables) (r : Reached z s) (n : ℕ) 
   publishes-goes : (t .stage ≡ 10) ⊎ ((t .stage ≡ 13) ⊎ (t .stage ≡ 19)) → By (Stages.publishes z s t)
   publishes-goes (inl e) = let st = stands 10 e refl refl in rw e (picked By (Stages.mayPublish z s t) (λ _. away st refl refl refl) (λ _. restarts st report.Frozen refl))
   publishes-goes (inr (inl e)) = let st = stands 13 e refl refl in rw e (picked By (Stages.mayPublish z s t) (λ _. still st refl refl refl (rw e refl) refl refl) (λ _. restarts st report.Frozen refl))
-  publishes-goes (inr (inr e)) = let st = stands 19 e refl refl in rw e (picked By (Stages.mayPublish z s t) (λ _. along e (refl, refl, refl, refl) st refl refl refl) (λ _. along e (refl, refl, refl, refl) st refl refl refl))
+  publishes-goes (inr (inr e)) = let st = stands 19 e refl refl in rw e (picked By (Stages.mayPublish z s t) (λ _. along (rw e refl, refl, refl, refl) st refl refl refl) (λ _. along (rw e refl, refl, refl, refl) st refl refl refl))
 
   -- ---- 11, 14 and 20
   swaps-goes : t .stage ≡ 11 → By (Stages.swaps z s t (t .new))
-  swaps-goes e = rw e (picked By (Stages.stillNames z s t) (λ i. turning e (refl, refl, refl, refl) early refl (rw (e, i) refl) unscanned refl refl) (λ i. away (early, rw (e, i) refl) (rw not-yet refl) refl refl))
+  swaps-goes e = rw e (picked By (Stages.stillNames z s t) (λ i. turning (rw e refl, refl, refl, refl) early refl (rw (e, i) refl) unscanned refl refl) (λ i. away (early, rw (e, i) refl) (rw not-yet refl) refl refl))
     where
       early : past t ≡ false
       early = rw e refl
@@ -263,7 +263,7 @@ module _ (z : Sizes) (lim : Limited z) (s : Tables) (r : Reached z s) (n : ℕ) 
 
   clears-goes : (t .stage ≡ 14) ⊎ (t .stage ≡ 20) → By (Stages.swaps z s t noHandle)
   clears-goes (inl e) = let st = stands 14 e refl refl in rw e (picked By (Stages.stillNames z s t) (λ _. still st refl refl refl (rw e refl) refl refl) (λ _. still st refl refl refl (rw e refl) refl refl))
-  clears-goes (inr e) = let st = stands 20 e refl refl in rw e (picked By (Stages.stillNames z s t) (λ _. along e (refl, refl, refl, refl) st refl refl refl) (λ _. along e (refl, refl, refl, refl) st refl refl refl))
+  clears-goes (inr e) = let st = stands 20 e refl refl in rw e (picked By (Stages.stillNames z s t) (λ _. along (rw e refl, refl, refl, refl) st refl refl refl) (λ _. along (rw e refl, refl, refl, refl) st refl refl refl))
 
   -- ---- 12 and 15
   -- an insertion whose swap failed has not decided
@@ -297,14 +297,14 @@ module _ (z : Sizes) (lim : Limited z) (s : Tables) (r : Reached z s) (n : ℕ) 
 
   -- ---- 17, 18 and 21
   -- a remove that has set its mark answers the value that still stands in its handle
-  removed : (m : ℕ) → t .stage ≡ m → throughout 9 (λ op. implies (fitsOperation op m) (eqb op remove)) ≡ true → m ≢ 0 → Stands true → (v : ℕ) → (t .operation ≡ remove → report.Value v ≡ changeAnswer s t) → By (Stages.finishes write.Nothing (report.Value v))
-  removed m e all ne st v right = Goes.answers refl refl (Ends.tells (st .0) (st .1) (right (eqb-true (t .operation) remove (passes m (λ op. eqb op remove) all e ne))))
+  removed : (m : ℕ) → t .stage ≡ m → throughout 9 (λ op. implies (fitsOperation op m) (eqb op remove)) ≡ true → m ≢ 0 → Stands true → {v : ℕ} → (t .operation ≡ remove → report.Value v ≡ changeAnswer s t) → By (Stages.finishes write.Nothing (report.Value v))
+  removed m e all ne st right = Goes.answers refl refl (Ends.tells (st .0) (st .1) (right (eqb-true (t .operation) remove (passes m (λ op. eqb op remove) all e ne))))
 
   finds-again-goes : t .stage ≡ 17 → By (Stages.findsAgain z s t)
-  finds-again-goes e = let st = stands 17 e refl refl in picked By (Stages.hasKey z s t) (λ _. along e (refl, refl, refl, refl) st refl refl refl) (λ _. removed 17 e refl (omega arith) st _ (λ op. rw (e, op) refl))
+  finds-again-goes e = let st = stands 17 e refl refl in picked By (Stages.hasKey z s t) (λ _. along (rw e refl, refl, refl, refl) st refl refl refl) (λ _. removed 17 e refl (omega arith) st (λ op. rw (e, op) refl))
 
   reads-again-goes : t .stage ≡ 18 → By (Stages.readsAgain z s t)
-  reads-again-goes e = let st = stands 18 e refl refl in picked By (eqb (entry z s (t .chunk) (t .entry) .handle .0) (t .old .0)) (λ _. along e (refl, refl, refl, refl) st refl refl refl) (λ _. removed 18 e refl (omega arith) st _ (λ op. rw (e, op) refl))
+  reads-again-goes e = let st = stands 18 e refl refl in picked By (eqb (entry z s (t .chunk) (t .entry) .handle .0) (t .old .0)) (λ _. along (rw e refl, refl, refl, refl) st refl refl refl) (λ _. removed 18 e refl (omega arith) st (λ op. rw (e, op) refl))
 
   -- ---- 22
   scans-goes : t .stage ≡ 22 → By (Stages.scans z s t)
@@ -362,7 +362,7 @@ module _ (z : Sizes) (lim : Limited z) (s : Tables) (r : Reached z s) (n : ℕ) 
         endsAbsent = ends-absent-goes;
         findsAgain = finds-again-goes;
         readsAgain = reads-again-goes;
-        endsRemove = λ e. removed 21 e refl (omega arith) (stands 21 e refl refl) _ (λ op. rw (e, op) refl);
+        endsRemove = λ e. removed 21 e refl (omega arith) (stands 21 e refl refl) (λ op. rw (e, op) refl);
         scans = scans-goes;
         scansDown = scans-down-goes;
         stays = λ none. stays-goes busy (rw (none 11 refl, none 5 refl) refl);

@@ -39,12 +39,6 @@ pub from-picked {ℓ} : {R : Type ℓ} (b x y : Bool) → (b ≡ true → x ≡ 
 from-picked true x y p q h = p refl h
 from-picked false x y p q h = q refl h
 
-pub pick-true {ℓ} : {A : Type ℓ} (b : Bool) (x y : A) → b ≡ true → pick b x y ≡ x
-pick-true b x y h = rw h
-
-pub pick-false {ℓ} : {A : Type ℓ} (b : Bool) (x y : A) → b ≡ false → pick b x y ≡ y
-pick-false b x y h = rw h
-
 pub not-true≡false : (b : Bool) → (b ≡ true → ⊥) → b ≡ false
 not-true≡false true h = absurd (h refl)
 not-true≡false false h = refl

@@ -5,11 +5,11 @@ use mathlib.Core.List.{List, [], _∷_}
 use lib.Dec.{eqb}
 use Rattle.rules.specs.declared.Sizes.{Sizes}
 use Rattle.rules.specs.declared.Report.the-variants as report
-use Rattle.rules.specs.Words.{pick, _or_}
+use Rattle.rules.specs.Words.{pick}
 use Rattle.rules.specs.Tables.{Tables, task, putTask}
 use Rattle.rules.specs.Stages.{keeps}
 use Rattle.rules.specs.Rebalance.{Outcome, gives}
-use Rattle.rules.specs.Calls.{Call, calls}
+use Rattle.rules.specs.Calls.{Call, firstStage, calls}
 use Rattle.rules.specs.Calls.Call.{start, step, begin, rebalance}
 
 abbrev pub Build : Type 0
@@ -40,12 +40,12 @@ module _ (z : Sizes) where
   runsOn zero n s = s
   runsOn (suc fuel) n s = let on = runsOn fuel n (calls z s (step n) .tables) in pick (eqb (task s n .stage) 0) s on
 
-  -- one that does the whole operation at its first step and idles through the rest: its reports and the task's own row are right at every step, and all else changes at the first
+  -- one that does the whole operation at its first step and idles through the rest: the task's own row moves on as it should, and all else changes at the first
   abbrev pub doesAllAtFirst : Build
   doesAllAtFirst s (step n) =
       let o = calls z s (step n) in
       let whole = runsOn 40 n s in
-      gives (putTask (pick (eqb (task s n .stage) 1 or eqb (task s n .stage) 22) whole s) n (task (o .tables) n)) (o .report)
+      gives (putTask (pick (eqb (task s n .stage) (firstStage (task s n .operation))) whole s) n (task (o .tables) n)) (o .report)
   doesAllAtFirst s (start n op k a f) = calls z s (start n op k a f)
   doesAllAtFirst s (begin k) = calls z s (begin k)
   doesAllAtFirst s rebalance = calls z s rebalance
