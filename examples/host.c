@@ -217,7 +217,8 @@ int main(void)
         live += host.chunks[c * KAMRDUCH_CHUNK_WORDS + KAMRDUCH_CHUNK_STATUS] == KAMRDUCH_LIVE;
         used += host.chunks[c * KAMRDUCH_CHUNK_WORDS + KAMRDUCH_CHUNK_USED];
     }
-    printf("refusals: %lu; chunks: %lu live, %lu slots used\n", refusals, live, used);
+    printf("refusals: %lu; chunks: %lu live, %" PRIu64 " indexed, ", refusals, live, host.directory[KAMRDUCH_DIRECTORY_INDEXED]);
+    printf("%lu slots used\n", used);
 
     if (!list(KAMRDUCH_SCAN) || !list(KAMRDUCH_SCAN_DOWN))
         return 1;

@@ -24,11 +24,13 @@ enum {
     KAMRDUCH_ENTRIES = 32, /* in each chunk, and as many words in a task's stack */
     KAMRDUCH_HANDLES = 560,
 
-    KAMRDUCH_TASK_WORDS = 11, /* of a row */
+    KAMRDUCH_INDEX_WORDS = 2, /* of a row */
+    KAMRDUCH_TASK_WORDS = 11,
     KAMRDUCH_CHUNK_WORDS = 6,
     KAMRDUCH_ENTRY_WORDS = 3,
 
-    KAMRDUCH_DIRECTORY_LENGTH = 5,
+    KAMRDUCH_INDEX = 6, /* where the index begins, after the directory's row */
+    KAMRDUCH_DIRECTORY_LENGTH = KAMRDUCH_INDEX + KAMRDUCH_CHUNKS * KAMRDUCH_INDEX_WORDS,
     KAMRDUCH_STACKS = KAMRDUCH_TASKS * KAMRDUCH_TASK_WORDS, /* where the stacks begin, after every task's row */
     KAMRDUCH_TASKS_LENGTH = KAMRDUCH_STACKS + KAMRDUCH_TASKS * KAMRDUCH_ENTRIES,
     KAMRDUCH_CHUNKS_LENGTH = KAMRDUCH_CHUNKS * KAMRDUCH_CHUNK_WORDS,
@@ -47,8 +49,16 @@ enum kamrduch_directory_word {
     KAMRDUCH_DIRECTORY_STAGE = 1, /* the rebalance's */
     KAMRDUCH_DIRECTORY_OLD = 2,
     KAMRDUCH_DIRECTORY_NEW = 3,
-    KAMRDUCH_DIRECTORY_SECOND = 4
+    KAMRDUCH_DIRECTORY_SECOND = 4,
+    KAMRDUCH_DIRECTORY_INDEXED = 5 /* how many rows of the index are in use */
 };
+
+/* The index: after its row the directory's table has 32 rows of two words, row i from word KAMRDUCH_INDEX + i * KAMRDUCH_INDEX_WORDS
+ * on. The rows in use stand first, minimum keys strictly rising, each with a live or retired chunk and that chunk's minimum key; in
+ * every row past them the key is 0 and the chunk KAMRDUCH_NONE. The calls find a key's chunk from there, and answer as a walk along
+ * the chain from the first live chunk would, whichever rows there are. From fresh on the rows are those of the live chunks in the
+ * chain's order, but between a rebalance's swap in and its index step those of before the swap in. */
+enum kamrduch_index_word { KAMRDUCH_INDEX_MINIMUM = 0, KAMRDUCH_INDEX_CHUNK = 1 };
 
 enum kamrduch_task_word {
     KAMRDUCH_TASK_STAGE = 0, /* 0 is idle */
@@ -89,7 +99,8 @@ enum kamrduch_rebalance_stage {
     KAMRDUCH_TO_DRAIN = 1,
     KAMRDUCH_TO_COPY = 2,
     KAMRDUCH_TO_SWAP_IN = 3,
-    KAMRDUCH_TO_RELEASE = 4
+    KAMRDUCH_TO_INDEX = 4,
+    KAMRDUCH_TO_RELEASE = 5
 };
 
 /* ---- what a task is asked to do */
@@ -149,8 +160,9 @@ enum kamrduch_refusal {
  * answer's included: nobody is told a number of refusal then.
  * A refused call leaves every word of every table as it found it, save a step refused by 9. A table lent as const is never written. */
 
-/* Makes the fresh directory over whatever the tables held, words that nobody has written too: chunk 0 live and empty, all else
- * unused and idle, every value and mark 0. Whatever was at work there is gone: the directory's history begins anew.
+/* Makes the fresh directory over whatever the tables held, words that nobody has written too: chunk 0 live and empty, with the one
+ * row of the index; all else unused and idle, every value and mark 0. Whatever was at work there is gone: the directory's history
+ * begins anew.
  * Returns done; refused by 10 where a table's length is another. */
 uint64_t kamrduch_fresh(uint64_t *directory, size_t directory_length, uint64_t *tasks, size_t tasks_length,
                         uint64_t *chunks, size_t chunks_length, uint64_t *entries, size_t entries_length,
@@ -184,8 +196,8 @@ uint64_t kamrduch_begin(uint64_t *directory, size_t directory_length, const uint
                         uint64_t key, uint64_t *answer, size_t answer_length);
 
 /* The rebalance does its next stage. Drain writes only its stage. Copy fills one or two new chunks and their entries, and names
- * them in the directory's row. Swap in puts them in the old one's place in the chain, live, and retires it. Release clears the
- * old chunk's row and entries, and the directory's rebalance.
+ * them in the directory's row. Swap in puts them in the old one's place in the chain, live, and retires it. Index makes the index's
+ * rows those of the live chunks, and never waits. Release clears the old chunk's row and entries, and the directory's rebalance.
  * Returns moved on, waiting (no word changes), or rebalance finished; refused by 10, 8, the first that is met. */
 uint64_t kamrduch_rebalance(uint64_t *directory, size_t directory_length, const uint64_t *tasks, size_t tasks_length,
                             uint64_t *chunks, size_t chunks_length, uint64_t *entries, size_t entries_length,

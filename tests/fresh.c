@@ -43,6 +43,23 @@ static uint64_t in_chunk(uint64_t c, int word)
     return chunks[c * KAMRDUCH_CHUNK_WORDS + (uint64_t)word];
 }
 
+/* the index has as many rows, and row i is of that chunk */
+static void indexes(uint64_t rows, uint64_t i, uint64_t c)
+{
+    const uint64_t *row = directory + KAMRDUCH_INDEX + i * KAMRDUCH_INDEX_WORDS;
+    expect(directory[KAMRDUCH_DIRECTORY_INDEXED] == rows, "the index's count");
+    expect(row[KAMRDUCH_INDEX_CHUNK] == c && row[KAMRDUCH_INDEX_MINIMUM] == in_chunk(c, KAMRDUCH_CHUNK_MINIMUM), "a row of the index");
+}
+
+/* every row past the count is 0 and none */
+static void indexes_no_more(void)
+{
+    for (uint64_t i = directory[KAMRDUCH_DIRECTORY_INDEXED]; i < KAMRDUCH_CHUNKS; i++) {
+        const uint64_t *row = directory + KAMRDUCH_INDEX + i * KAMRDUCH_INDEX_WORDS;
+        expect(row[KAMRDUCH_INDEX_MINIMUM] == 0 && row[KAMRDUCH_INDEX_CHUNK] == KAMRDUCH_NONE, "a row past the index's count");
+    }
+}
+
 static void works(void)
 {
     expect(does(KAMRDUCH_GET, 5, 0, 0) == KAMRDUCH_FINISHED_ABSENT && steps == 2, "get of an absent key");
@@ -59,10 +76,21 @@ static void splits(void)
     for (uint64_t key = 1; key <= 17; key++)
         expect(does(KAMRDUCH_UPSERT, key, key, KAMRDUCH_LARGER) == KAMRDUCH_FINISHED_DONE, "upsert");
     expect(kamrduch_begin(TABLES, 3, ANSWER) == KAMRDUCH_MOVED_ON, "begin");
+    uint64_t old = directory[KAMRDUCH_DIRECTORY_OLD];
     for (int i = 0; i < 3; i++)
         expect(kamrduch_rebalance(TABLES, ANSWER) == KAMRDUCH_MOVED_ON, "drain, copy or swap in");
+    /* the index still has the old chunk, and a key is found past it */
+    expect(directory[KAMRDUCH_DIRECTORY_STAGE] == KAMRDUCH_TO_INDEX, "to index");
+    expect(in_chunk(old, KAMRDUCH_CHUNK_STATUS) == KAMRDUCH_RETIRED, "the old chunk");
+    indexes(1, 0, old);
+    expect(does(KAMRDUCH_GET, 17, 0, 0) == KAMRDUCH_FINISHED_VALUE && answer[0] == 17, "get through the old chunk's row");
+    expect(kamrduch_rebalance(TABLES, ANSWER) == KAMRDUCH_MOVED_ON, "index");
+    expect(directory[KAMRDUCH_DIRECTORY_STAGE] == KAMRDUCH_TO_RELEASE, "to release");
     expect(kamrduch_rebalance(TABLES, ANSWER) == KAMRDUCH_REBALANCE_FINISHED, "release");
     uint64_t first = directory[KAMRDUCH_DIRECTORY_FIRST], second = in_chunk(first, KAMRDUCH_CHUNK_NEXT);
+    indexes(2, 0, first);
+    indexes(2, 1, second);
+    indexes_no_more();
     expect(in_chunk(first, KAMRDUCH_CHUNK_USED) == 9 && in_chunk(first, KAMRDUCH_CHUNK_MINIMUM) == 0, "the first new chunk");
     expect(in_chunk(second, KAMRDUCH_CHUNK_USED) == 8 && in_chunk(second, KAMRDUCH_CHUNK_MINIMUM) == 10, "the second new chunk");
 }
@@ -115,6 +143,8 @@ int main(void)
         expect(values[h] == 0 && marks[h] == 0, "a value or a mark");
     for (int i = KAMRDUCH_STACKS; i < KAMRDUCH_TASKS_LENGTH; i++)
         expect(tasks[i] == KAMRDUCH_NONE, "a stack");
+    indexes(1, 0, 0);
+    indexes_no_more();
     works();
     splits();
     scans();

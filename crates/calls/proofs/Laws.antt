@@ -22,12 +22,12 @@ leading a b rest t = eqb-true a b (and-left (eqb a b) rest t)
 -- the lengths, by name
 pub lent-lengths : (z : Sizes) (w : Lending) → lent z w ≡ true → Lent z (w .directory) (w .tasks) (w .chunks) (w .entries) (w .values) (w .marks)
 lent-lengths z w t =
-    let a1 = and-right (eqb (length (w .directory)) 5) _ t in
+    let a1 = and-right (eqb (length (w .directory)) (6 + z .chunks * 2)) _ t in
     let a2 = and-right (eqb (length (w .tasks)) (z .tasks * 11 + z .tasks * z .entries)) _ a1 in
     let a3 = and-right (eqb (length (w .chunks)) (z .chunks * 6)) _ a2 in
     let a4 = and-right (eqb (length (w .entries)) (z .chunks * z .entries * 3)) _ a3 in
     record {
-      directory = leading (length (w .directory)) 5 _ t;
+      directory = leading (length (w .directory)) (6 + z .chunks * 2) _ t;
       tasks = leading (length (w .tasks)) (z .tasks * 11 + z .tasks * z .entries) _ a1;
       chunks = leading (length (w .chunks)) (z .chunks * 6) _ a2;
       entries = leading (length (w .entries)) (z .chunks * z .entries * 3) _ a3;

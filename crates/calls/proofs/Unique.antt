@@ -22,7 +22,7 @@ tables-words z a b p q e =
     let la = lent-lengths z a p in
     let lb = lent-lengths z b q in
     same-words _ _ _ _ _ _ _ _ _ _ _ _
-    (directory-same _ _ (la .directory) (lb .directory) (ap (λ (s : Tables). s .directory) e))
+    (directory-same (z .chunks) _ _ (la .directory) (lb .directory) (ap (λ (s : Tables). s .directory) e) (ap (λ (s : Tables). s .index) e))
     (task-same z _ _ (la .tasks) (lb .tasks) (ap (λ (s : Tables). s .tasks) e) (ap (λ (s : Tables). s .stacks) e))
     (chunk-same (z .chunks) _ _ (la .chunks) (lb .chunks) (ap (λ (s : Tables). s .chunks) e))
     (entry-same (z .chunks * z .entries) _ _ (la .entries) (lb .entries) (ap (λ (s : Tables). s .entries) e))

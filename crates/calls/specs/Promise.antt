@@ -43,7 +43,7 @@ tablesOf z w = tables z (w .directory) (w .tasks) (w .chunks) (w .entries) (w .v
 -- each slice has the length that the sizes ask
 abbrev pub lent : Sizes → Lending → Bool
 lent z w =
-    eqb (length (w .directory)) 5
+    eqb (length (w .directory)) (6 + z .chunks * 2)
     and eqb (length (w .tasks)) (z .tasks * 11 + z .tasks * z .entries)
     and eqb (length (w .chunks)) (z .chunks * 6)
     and eqb (length (w .entries)) (z .chunks * z .entries * 3)

@@ -21,7 +21,7 @@ pub fn is_lent(
     requires { ⌜ Fits z ⌝ }
     ensures { λ r. ⌜ r ≡ lent z (wordsLent directory tasks chunks entries values marks) ⌝ }
 {
-    if directory.len() != rows::DIRECTORY_WORDS {
+    if directory.len() != rows::DIRECTORY_WORDS + z.chunks * rows::INDEX_WORDS {
         return false;
     }
     if tasks.len() != z.tasks * rows::TASK_WORDS + z.tasks * z.entries {

@@ -12,6 +12,7 @@ use Rattle.statements.specs.Runs.{tablesAt}
 use Rattle.statements.specs.Sound.{Limited, SoundAt}
 use Rattle.facts.specs.Facts.{Kept}
 use Rattle.facts.specs.Reached.{Reached}
+use Rattle.facts.proofs.Indexes.{indexed-at, awaits-at}
 use Rattle.facts.proofs.Reaching.{reached-kept, run-reached, limits-limited}
 use Rattle.facts.proofs.Covering.{covers, only, chain-holds, lists-ascend}
 use Rattle.handles.proofs.Keys.{one-key-each}
@@ -34,6 +35,8 @@ module _ (z : Sizes) (lim : Limited z) where
         covered = covers z lim s kept;
         alone = only z lim s kept;
         chained = chain-holds z lim s kept;
+        indexed = indexed-at z lim run i;
+        awaits = awaits-at z lim run i;
         ascending = lists-ascend z lim s kept;
         within = λ c l. kept .tables .key-in-range c (l .numbered) (l .isLive);
         one-key = one-key-each z lim s r;

@@ -1,5 +1,5 @@
 -- The three demands, for a reader who knows document 01. Beyond the rules (crates/rules/specs) these files, and no other, are to be believed; the rest serves proofs:
---   this file 67   crates/statements/specs/Runs.antt 65, Answers.antt 108, Sound.antt 72   crates/calls/specs/Promise.antt 65   crates/host/specs/Linked.antt 22 (lines)
+--   this file 67   crates/statements/specs/Runs.antt 65, Answers.antt 108, Sound.antt 88   crates/calls/specs/Promise.antt 65   crates/host/specs/Linked.antt 22 (lines)
 -- What the code ensures is the contract of each public call (crates/directory, crates/host), with no `requires`: Promise, Makes and Answered below, at the limits.
 use Prim.Native.Nat.{ℕ, suc}
 use mathlib.Core.Path.{_≡_}
@@ -61,7 +61,7 @@ pub record Kamrduch : Type 0 where
   pub at-limits : Demands limits
   -- no insertion is refused a handle while fewer than 512 keys are present
   pub keys : promised limits ≡ 512
-  -- something finishes: the marked cases, M1 to M12, three more, those of scans down and those of former values, every report and what the tables then show
+  -- something finishes: the marked cases, M1 to M12, three more, those of scans down, of former values and of the index, every report and what the tables then show
   pub marked : map (runs calls (fresh limits)) markedCases ≡ map (map says) markedCases
   -- tables that break one clause of the shape, each clause by one of the list: every call on them is refused by 10
   pub broken : (s : Tables) → List·Memᴰ s brokenTables → (c : Call) → calls limits s c ≡ gives s (report.Refused 10)

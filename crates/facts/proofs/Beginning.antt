@@ -16,7 +16,7 @@ use Rattle.rules.specs.declared.ChunkNo.{ChunkNo}
 use Rattle.rules.specs.Words.{NONE, chunkNo, noChunk, unused, live, new, idle, toDrain, toCopy}
 use Rattle.rules.specs.Tables.{Tables, chunkAt, chunk, task}
 use Rattle.rules.specs.Walks.{locate, InRange}
-use Rattle.rules.specs.Rebalance.{Outcome, unusedCount, publishedOn, frozenOf, begins, drains}
+use Rattle.rules.specs.Rebalance.{Outcome, unusedCount, publishedOn, frozenOf, begins, drains, withRebalance}
 use Rattle.laws.proofs.Tests.{picked}
 use Rattle.views.specs.Views.{Links}
 use Rattle.views.proofs.Rows.{chunk-put}
@@ -50,7 +50,7 @@ module _ (z : Sizes) (lim : Limited z) (s : Tables) (kept : Kept z s) where
     cs = set (s .chunks) (c .0) (frozenOf (chunk s c))
 
     d : Directory
-    d = record { first = s .directory .first; stage = toDrain; old = c; new = noChunk; second = noChunk }
+    d = withRebalance (s .directory) toDrain c noChunk noChunk
 
     same : Same (s .chunks) cs
     unfolding cs
@@ -142,7 +142,7 @@ module _ (z : Sizes) (lim : Limited z) (s : Tables) (kept : Kept z s) where
     task-right t r = tasked-kept z (s .chunks) cs same (s .entries) (s .entries) t r (λ f b. rw (used-is f) (le-refl _)) (λ f e b u. refl) (λ f e b m. rw (quiet f b .0) m)
 
     abbrev after : Tables
-    after = record { directory = record { first = s .directory .first; stage = toDrain; old = locate z s k; new = noChunk; second = noChunk }; tasks = s .tasks; chunks = set (s .chunks) (locate z s k .0) (frozenOf (chunk s (locate z s k))); entries = s .entries; values = s .values; marks = s .marks; stacks = s .stacks }
+    after = record { directory = withRebalance (s .directory) toDrain (locate z s k) noChunk noChunk; tasks = s .tasks; chunks = set (s .chunks) (locate z s k .0) (frozenOf (chunk s (locate z s k))); entries = s .entries; values = s .values; marks = s .marks; stacks = s .stacks; index = s .index }
 
     begun-leaves : (f : ChunkNo) → Leaves z s after f
     unfolding c cs
@@ -190,7 +190,7 @@ module _ (z : Sizes) (lim : Limited z) (s : Tables) (kept : Kept z s) where
     q = h .rebalancing
 
     d′ : Directory
-    d′ = record { first = s .directory .first; stage = toCopy; old = s .directory .old; new = noChunk; second = noChunk }
+    d′ = withRebalance (s .directory) toCopy (s .directory .old) noChunk noChunk
 
     drained-roles : (f : ChunkNo) → f .0 < z .chunks → Roles d′ (f .0) (chunk s f)
     unfolding d′
@@ -207,7 +207,7 @@ module _ (z : Sizes) (lim : Limited z) (s : Tables) (kept : Kept z s) where
         none : NONE ≡ f .0 → ⊥
         none e = omega (arith, lim .chunks)
 
-    drained : Kept z (record { directory = record { first = s .directory .first; stage = toCopy; old = s .directory .old; new = noChunk; second = noChunk }; tasks = s .tasks; chunks = s .chunks; entries = s .entries; values = s .values; marks = s .marks; stacks = s .stacks })
+    drained : Kept z (record { directory = withRebalance (s .directory) toCopy (s .directory .old) noChunk noChunk; tasks = s .tasks; chunks = s .chunks; entries = s .entries; values = s .values; marks = s .marks; stacks = s .stacks; index = s .index })
     unfolding d′
     drained =
         record {

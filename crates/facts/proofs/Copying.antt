@@ -20,11 +20,12 @@ use Rattle.rules.specs.declared.Entry.{Entry}
 use Rattle.rules.specs.declared.ChunkNo.{ChunkNo}
 use Rattle.rules.specs.Words.{NONE, chunkNo, noChunk, unused, live, new, toCopy, toSwap}
 use Rattle.rules.specs.Tables.{Tables, emptyEntry, chunkAt, entryAt, chunk, task, withDirectory, withChunks, withEntries}
-use Rattle.rules.specs.Rebalance.{Outcome, unusedCount, unusedFrom, namingFrom, makes, copies}
+use Rattle.rules.specs.Rebalance.{Outcome, unusedCount, unusedFrom, namingFrom, makes, copies, at, withRebalance}
 use Rattle.rules.specs.Shape.{numbers}
 use Rattle.laws.specs.Counts.{Every}
 use Rattle.laws.proofs.Tests.{picked}
 use Rattle.views.specs.Views.{Links}
+use Rattle.views.proofs.Rows.{chunk-either}
 use Rattle.views.proofs.Copies.{fill-is}
 use Rattle.views.proofs.Entries.{links-length}
 use Rattle.views.proofs.Naming.{naming-rising, naming-length, naming-every, rising-take, rising-drop, rising-from, rising-grows, take-below, getD-in, every-take, every-drop, unused-first, unused-next}
@@ -35,6 +36,34 @@ use Rattle.facts.proofs.Numbers.{number-in, number-none}
 use Rattle.facts.proofs.Stacking.{stacked-kept}
 use Rattle.facts.proofs.Putting.{Based, based-of}
 use Rattle.facts.proofs.Making.{newRow, made-other, made-here, made-range, made-keys, made-list, made-task, based-made}
+
+-- what holds of the tables with one new chunk or two, and every other chunk as it was, holds of those that copy leaves
+module _ (z : Sizes) (s : Tables) where
+  abbrev firstFree : ChunkNo
+  firstFree = unusedFrom (s .chunks) 0
+
+  abbrev secondFree : ChunkNo
+  secondFree = unusedFrom (drop (firstFree .0 + 1) (s .chunks)) (firstFree .0 + 1)
+
+  pub copy-by : (P : Tables → Type 0) →
+      ((c : ChunkNo) (cs : List Chunk) (es : List Entry) → ((f : ChunkNo) → f ≢ firstFree → f ≢ secondFree → chunkAt cs f ≡ chunk s f) → P (withChunks (withEntries (withDirectory s (at z s toSwap firstFree c)) es) cs)) → P (copies z s .tables)
+  copy-by P by =
+      picked (λ (o : Outcome). P (o .tables)) (leb (length l) (z .entries / 2))
+      (λ _. rw (fill-is z firstFree (withDirectory s (at z s toSwap firstFree noChunk)) 0 l) (by noChunk _ _ (λ f ne _. first l f ne)))
+      (λ _. rw (fill-is z firstFree (withDirectory s (at z s toSwap firstFree secondFree)) 0 l₁, fill-is z secondFree (withChunks (withEntries (withDirectory s (at z s toSwap firstFree secondFree)) (filled z firstFree 0 l₁ (s .entries))) (set (s .chunks) (firstFree .0) (newRow (chunk s (s .directory .old) .min) l₁))) 0 l₂)
+      (by secondFree _ _ (λ f ne nf. chunk-either (set (s .chunks) (firstFree .0) (newRow (chunk s (s .directory .old) .min) l₁)) secondFree (newRow (getD l ((length l + 1) / 2) emptyEntry .key) l₂) f (λ y. y ≡ chunk s f) (λ e. absurd (nf e)) (first l₁ f ne))))
+    where
+      l : List Entry
+      l = namingFrom z (s .entries) (s .directory .old) (z .entries) (chunk s (s .directory .old) .head)
+
+      l₁ : List Entry
+      l₁ = take ((length l + 1) / 2) l
+
+      l₂ : List Entry
+      l₂ = drop ((length l + 1) / 2) l
+
+      first : (r : List Entry) (f : ChunkNo) → f ≢ firstFree → chunkAt (set (s .chunks) (firstFree .0) (newRow (chunk s (s .directory .old) .min) r)) f ≡ chunk s f
+      first r f ne = chunk-either (s .chunks) firstFree (newRow (chunk s (s .directory .old) .min) r) f (λ y. y ≡ chunk s f) (λ e. absurd (ne e)) refl
 
 module _ (z : Sizes) (lim : Limited z) (s : Tables) (kept : Kept z s) (copying : s .directory .stage ≡ toCopy) where
   h : Tabled z (s .directory) (s .chunks) (s .entries)
@@ -107,7 +136,7 @@ module _ (z : Sizes) (lim : Limited z) (s : Tables) (kept : Kept z s) (copying :
 
   -- ---- the rebalance afterwards
   abbrev after : ChunkNo → Directory
-  after c = record { first = s .directory .first; stage = toSwap; old = old; new = a; second = c }
+  after c = withRebalance (s .directory) toSwap old a c
 
   module _ (c : ChunkNo) (cs′ : List Chunk) (num : numbers (z .chunks) (c .0) ≡ true) (apart : a .0 ≢ c .0) (old-c : old .0 ≢ c .0)
       (at-old : chunkAt cs′ old ≡ chunk s old) (at-new : (chunkAt cs′ a .frozen ≡ 0) × (chunkAt cs′ a .status ≡ new)) (at-second : c .0 < z .chunks → (chunkAt cs′ c .frozen ≡ 0) × (chunkAt cs′ c .status ≡ new))

@@ -1,8 +1,9 @@
 -- Live chunks cover all keys, by the facts.
-use Prim.Native.Nat.{ℕ, _<_}
+use Prim.Native.Nat.{ℕ, _≤_, _<_}
 use mathlib.Core.Path.{_≡_, sym, ap, _∙_}
 use mathlib.Core.Logic.{_↔_}
 use mathlib.Core.List.{List, [], _∷_, List·Memᴰ}
+use lib.ListN.{length}
 use Rattle.rules.specs.declared.Sizes.{Sizes}
 use Rattle.rules.specs.declared.Entry.{Entry}
 use Rattle.rules.specs.declared.ChunkNo.{ChunkNo}
@@ -10,12 +11,12 @@ use Rattle.rules.specs.declared.EntryNo.{EntryNo}
 use Rattle.rules.specs.Tables.{Tables, chunk, entry, entryAt}
 use Rattle.rules.specs.Walks.{locate, linked, InRange, chain}
 use Rattle.rules.specs.Map.{Ascends}
-use Rattle.views.specs.Views.{Links}
+use Rattle.views.specs.Views.{Links, Chain, Chained}
 use Rattle.views.proofs.Entries.{links-one}
 use Rattle.views.proofs.Chunks.{chain-view, chain-live, chain-one}
+use Rattle.views.proofs.Chained.{chain-short}
 use Rattle.statements.specs.Sound.{Limited, Live}
-use Rattle.facts.specs.Facts.{Chained, Kept}
-use Rattle.facts.proofs.Shapes.{chain-short}
+use Rattle.facts.specs.Facts.{Kept}
 use Rattle.facts.proofs.Going.{located}
 
 -- the keys of a list ascend
@@ -28,8 +29,18 @@ module _ (z : Sizes) (lim : Limited z) (s : Tables) (kept : Kept z s) where
   c : Chained z (s .directory .first) (s .chunks)
   c = kept .tables .chained
 
+  short : length (s .directory .first ∷ c .rest) ≤ z .chunks
+  short = chain-short z (s .chunks) (s .directory .first) (kept .tables .chunks-sized) c
+
   chain-is : chain z s ≡ s .directory .first ∷ c .rest
-  chain-is = chain-view z (s .chunks) (lim .chunks) (z .chunks) 0 (s .directory .first) (s .directory .first ∷ c .rest) (chain-short z (s .chunks) (s .directory .first) (kept .tables .chunks-sized) c) (c .chain)
+  chain-is = chain-view z (s .chunks) (lim .chunks) (z .chunks) 0 (s .directory .first) (s .directory .first ∷ c .rest) short (c .chain)
+
+  -- the live chunks are a chain, of at most as many as there are
+  pub chain-within : length (chain z s) ≤ z .chunks
+  chain-within = rw chain-is short
+
+  pub chain-chained : Chain z (s .chunks) 0 (s .directory .first) (chain z s)
+  chain-chained = rw chain-is (c .chain)
 
   in-chain : (f : ChunkNo) → Live z s f → List·Memᴰ f (s .directory .first ∷ c .rest)
   in-chain f l = c .every f (l .numbered) (l .isLive)

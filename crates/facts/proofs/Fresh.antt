@@ -17,11 +17,11 @@ use Rattle.rules.specs.Rebalance.{withStatus}
 use Rattle.rules.specs.Shape.{liveCount}
 use Rattle.rules.specs.Calls.{fresh}
 use Rattle.laws.specs.Counts.{Every}
-use Rattle.views.specs.Views.{Links, Chain}
+use Rattle.views.specs.Views.{Links, Chain, Chained}
 use Rattle.views.proofs.Rows.{chunk-put, live-set, one}
 use Rattle.views.proofs.Entries.{links-view}
 use Rattle.statements.specs.Sound.{Limited}
-use Rattle.facts.specs.Facts.{RowRight, ListRight, listed, Chained, Roles, Rebalancing, Tasked, Kept}
+use Rattle.facts.specs.Facts.{RowRight, ListRight, listed, Roles, Rebalancing, Tasked, Kept}
 use Rattle.rules.proofs.Fresh.{getD-replicate}
 use Rattle.facts.proofs.Numbers.{number-none}
 use Rattle.facts.proofs.Stacking.{none-stacked}
@@ -99,7 +99,7 @@ module _ (z : Sizes) (lim : Limited z) where
       zero q = omega arith
 
   resting : Directory
-  resting = record { first = chunkNo 0; stage = idle; old = noChunk; new = noChunk; second = noChunk }
+  resting = record { first = chunkNo 0; stage = idle; old = noChunk; new = noChunk; second = noChunk; indexed = 1 }
 
   rebalancing-right : Rebalancing z resting cs
   unfolding resting

@@ -25,14 +25,14 @@ use Rattle.rules.specs.Walks.{locate, find, InRange}
 use Rattle.rules.specs.Stages
 use Rattle.rules.specs.Shape.{fitsOperation}
 use Rattle.laws.specs.Counts.{Every}
-use Rattle.views.specs.Views.{Links}
+use Rattle.views.specs.Views.{Links, Chained}
 use Rattle.views.proofs.Entries.{links-length, find-hit, find-miss, links-below}
 use Rattle.views.proofs.Chunks.{chain-locate, chain-live}
+use Rattle.views.proofs.Chained.{chain-short}
 use Rattle.statements.specs.Sound.{Limited}
-use Rattle.facts.specs.Facts.{listed, Chained, Tabled, Holds, holdAt, ChunkOfKey, EntryHeld, Tasked, Allowed}
+use Rattle.facts.specs.Facts.{listed, Tabled, Holds, holdAt, ChunkOfKey, EntryHeld, Tasked, Allowed}
 use Rattle.facts.proofs.Numbers.{holding}
 use Rattle.facts.proofs.Operations.{throughout, implies, fits-move}
-use Rattle.facts.proofs.Shapes.{chain-short}
 
 -- a stage's outcome: its write is allowed, and after it the task's row has the facts
 pub record Fine (z : Sizes) (s : Tables) (x : Decision) : Type 0 where

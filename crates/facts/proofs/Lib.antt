@@ -18,6 +18,8 @@ pub mod Making
 pub mod Copying
 pub mod Swapping
 pub mod SwapIn
+pub mod Indexing
 pub mod Reports
 pub mod Reaching
 pub mod Covering
+pub mod Indexes

@@ -19,12 +19,12 @@ use Rattle.rules.specs.Words.{NONE, live}
 use Rattle.rules.specs.Tables.{chunkAt, entryAt}
 use Rattle.rules.specs.Shape.{liveCount}
 use Rattle.laws.specs.Counts.{Every}
-use Rattle.views.specs.Views.{Links, Chain}
+use Rattle.views.specs.Views.{Links, Chain, Chained}
 use Rattle.views.proofs.Rows.{chunk-put, live-set, one}
 use Rattle.views.proofs.Entries.{links-below}
 use Rattle.views.proofs.Chunks.{chain-frame, chain-live, chain-next}
 use Rattle.statements.specs.Sound.{Limited}
-use Rattle.facts.specs.Facts.{ListRight, listed, Chained, KeyInRange, Tabled, EntryHeld, Tasked}
+use Rattle.facts.specs.Facts.{ListRight, listed, KeyInRange, Tabled, EntryHeld, Tasked}
 use Rattle.facts.proofs.Sames.{list-quiet}
 use Rattle.facts.proofs.Writes.{same-chunk}
 

@@ -4,7 +4,7 @@ use lib.Dec.{eqb}
 use borrow.Author.Tests.{eqb-true}
 use Rattle.rules.specs.declared.Sizes.{Sizes}
 use native.Mathlib.Omega.{arith}
-use Rattle.rules.specs.Words.{limits, toDrain, toCopy, toSwap, toRelease}
+use Rattle.rules.specs.Words.{limits, toDrain, toCopy, toSwap, toIndex, toRelease}
 use Rattle.rules.specs.Tables.{Tables, task}
 use Rattle.rules.specs.Rebalance.{Outcome, rebalanceDoes}
 use Rattle.rules.specs.Shape.{shape}
@@ -21,6 +21,7 @@ use Rattle.facts.proofs.Tasks.{start-kept, step-kept, start-leaves, ste
 use Rattle.facts.proofs.Beginning.{begin-kept, drain-kept, begin-leaves, drain-leaves}
 use Rattle.facts.proofs.Copying.{copy-kept, copy-leaves}
 use Rattle.facts.proofs.SwapIn.{swap-in-kept, swap-in-leaves}
+use Rattle.facts.proofs.Indexing.{index-kept, index-leaves}
 use Rattle.facts.proofs.Releasing.{release-kept, release-leaves}
 
 -- what holds of the tables before a call, and of those that it makes where the shape holds, holds after it
@@ -39,7 +40,8 @@ module _ (z : Sizes) (lim : Limited z) where
       picked Q (eqb (s .directory .stage) toDrain) (λ e. drain-kept z lim s k (eqb-true _ _ e))
       (λ _. picked Q (eqb (s .directory .stage) toCopy) (λ e. copy-kept z lim s k (eqb-true _ _ e))
       (λ _. picked Q (eqb (s .directory .stage) toSwap) (λ e. swap-in-kept z lim s k (eqb-true _ _ e))
-      (λ _. picked Q (eqb (s .directory .stage) toRelease) (λ e. release-kept z lim s k (eqb-true _ _ e)) (λ _. k))))
+      (λ _. picked Q (eqb (s .directory .stage) toIndex) (λ e. index-kept z s k (eqb-true _ _ e))
+      (λ _. picked Q (eqb (s .directory .stage) toRelease) (λ e. release-kept z lim s k (eqb-true _ _ e)) (λ _. k)))))
     where
       Q : (Sizes → Tables → Outcome) → Type 0
       Q f = Kept z (f z s .tables)
@@ -54,7 +56,8 @@ module _ (z : Sizes) (lim : Limited z) where
       picked Q (eqb (s .directory .stage) toDrain) (λ _. drain-leaves z lim s k (task s n .chunk))
       (λ _. picked Q (eqb (s .directory .stage) toCopy) (λ e. copy-leaves z lim s k (eqb-true _ _ e) (task s n .chunk))
       (λ _. picked Q (eqb (s .directory .stage) toSwap) (λ e. swap-in-leaves z lim s k (eqb-true _ _ e) (task s n .chunk))
-      (λ _. picked Q (eqb (s .directory .stage) toRelease) (λ e. release-leaves z lim s k (eqb-true _ _ e) n) (λ _. same-leaves z s (task s n .chunk)))))
+      (λ _. picked Q (eqb (s .directory .stage) toIndex) (λ _. index-leaves z s (task s n .chunk))
+      (λ _. picked Q (eqb (s .directory .stage) toRelease) (λ e. release-leaves z lim s k (eqb-true _ _ e) n) (λ _. same-leaves z s (task s n .chunk))))))
     where
       Q : (Sizes → Tables → Outcome) → Type 0
       Q f = Leaves z s (f z s .tables) (task s n .chunk)

@@ -17,9 +17,9 @@ use Rattle.rules.specs.declared.Chunk.{Chunk}
 use Rattle.rules.specs.declared.Entry.{Entry}
 use Rattle.rules.specs.declared.ChunkNo.{ChunkNo}
 use Rattle.rules.specs.declared.EntryNo.{EntryNo}
-use Rattle.rules.specs.Words.{NONE, chunkNo, noChunk, unused, live, new, idle, toRelease}
+use Rattle.rules.specs.Words.{NONE, chunkNo, unused, live, new, toRelease}
 use Rattle.rules.specs.Tables.{Tables, idleTask, emptyChunk, emptyEntry, withDirectory, chunkAt, entryAt, chunk, task, putChunk, withChunks, withEntries}
-use Rattle.rules.specs.Rebalance.{Outcome, heldChunk, clears, releases}
+use Rattle.rules.specs.Rebalance.{Outcome, heldChunk, clears, releases, atRest}
 use Rattle.laws.proofs.Tests.{picked, by-test}
 use Rattle.views.specs.Views.{Links}
 use Rattle.views.specs.Copies.{cleared}
@@ -105,7 +105,7 @@ module _ (z : Sizes) (lim : Limited z) (s : Tables) (kept : Kept z s) (releasing
   released = based-put z lim (s .directory .first) (s .chunks) (s .entries) base old emptyChunk es old-in was zero-one len rows list-here
 
   d : Directory
-  d = record { first = s .directory .first; stage = idle; old = noChunk; new = noChunk; second = noChunk }
+  d = atRest (s .directory)
 
   roles : (f : ChunkNo) → f .0 < z .chunks → Roles d (f .0) (chunkAt cs f)
   unfolding d cs old
@@ -130,7 +130,7 @@ module _ (z : Sizes) (lim : Limited z) (s : Tables) (kept : Kept z s) (releasing
           is-new o = (r .new not-old o .0, inr (r .new not-old o .1 ∙ rw releasing))
 
   abbrev after : Tables
-  after = withChunks (withEntries (withDirectory s (record { first = s .directory .first; stage = idle; old = noChunk; new = noChunk; second = noChunk })) es) cs
+  after = withChunks (withEntries (withDirectory s (atRest (s .directory))) es) cs
 
   -- no task holds the chunk that goes
   unheld : (n : ℕ) → task s n .chunk ≢ old
@@ -145,10 +145,10 @@ module _ (z : Sizes) (lim : Limited z) (s : Tables) (kept : Kept z s) (releasing
         min = λ _. ap (λ (y : Chunk). y .min) (put-other z lim (s .directory .first) (s .chunks) (s .entries) base old emptyChunk es old-in was zero-one len rows (task s n .chunk) (unheld n));
       }
 
-  cleared-kept : Kept z (putChunk (clears z s (z .entries) (withDirectory s (record { first = s .directory .first; stage = idle; old = noChunk; new = noChunk; second = noChunk })) (s .directory .old)) (s .directory .old) emptyChunk)
+  cleared-kept : Kept z (putChunk (clears z s (z .entries) (withDirectory s (atRest (s .directory))) (s .directory .old)) (s .directory .old) emptyChunk)
   unfolding d cs es old
   cleared-kept =
-      rw (clears-is z (s .directory .old) s (z .entries) (withDirectory s (record { first = s .directory .first; stage = idle; old = noChunk; new = noChunk; second = noChunk })))
+      rw (clears-is z (s .directory .old) s (z .entries) (withDirectory s (atRest (s .directory))))
       (record {
         tasks-sized = kept .tasks-sized;
         values-sized = kept .values-sized;
@@ -185,4 +185,4 @@ pub release-leaves : (z : Sizes) → Limited z → (s : Tables) → Kept z s →
 unfolding es cs old
 release-leaves z lim s kept e n =
     picked (λ (o : Outcome). Leaves z s (o .tables) (task s n .chunk)) (heldChunk (s .tasks) (s .directory .old)) (λ _. same-leaves z s (task s n .chunk))
-    (λ f. rw (clears-is z (s .directory .old) s (z .entries) (withDirectory s (record { first = s .directory .first; stage = idle; old = noChunk; new = noChunk; second = noChunk }))) (after-leaves z lim s kept e f n))
+    (λ f. rw (clears-is z (s .directory .old) s (z .entries) (withDirectory s (atRest (s .directory)))) (after-leaves z lim s kept e f n))

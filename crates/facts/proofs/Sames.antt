@@ -18,12 +18,12 @@ use lib.Dec.{eqb}
 use Rattle.rules.specs.Words.{pick, unused, live, new, toSwap}
 use Rattle.rules.specs.Tables.{chunkAt, entryAt}
 use Rattle.laws.specs.Counts.{Every}
-use Rattle.views.specs.Views.{Links}
+use Rattle.views.specs.Views.{Links, Chained}
 use Rattle.views.proofs.Rows.{chunk-put, live-set, unused-set}
 use Rattle.views.proofs.Entries.{links-length, links-view, links-frame}
 use Rattle.views.proofs.Chunks.{chain-frame}
 use Rattle.statements.specs.Sound.{Limited}
-use Rattle.facts.specs.Facts.{ListRight, listed, Chained, KeyInRange, Roles, Made, Rebalancing, Tabled, Same, EntryHeld, Tasked}
+use Rattle.facts.specs.Facts.{ListRight, listed, KeyInRange, Roles, Made, Rebalancing, Tabled, Same, EntryHeld, Tasked}
 
 pub same-all : (cs : List Chunk) → Same cs cs
 same-all cs = record { sized = refl; live = refl; unused = refl; status = λ c. refl; min = λ c. refl; next = λ c. refl }

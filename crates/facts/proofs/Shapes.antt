@@ -3,8 +3,8 @@ use Prim.Native.Nat.{ℕ, zero, suc, _+_, _*_, _≤_, _<_}
 use mathlib.Core.Path.{_≡_, refl, sym, ap, _∙_}
 use mathlib.Core.Logic.{_⊎_, ⊎-elim, ⊎-map, _≢_}
 use mathlib.Core.Bool.{Bool, true, false, false≢true}
-use mathlib.Core.List.{List, [], _∷_, List·Memᴰ, List·Memᴰ·head, List·Memᴰ·tail}
-use native.Mathlib.Nat.{zero-add, le-trans}
+use mathlib.Core.List.{List, [], _∷_, List·Memᴰ, List·Memᴰ·head, List·Memᴰ·tail, map}
+use native.Mathlib.Nat.{zero-add, le-trans, not-suc-le-zero, le-of-suc-le-suc}
 use native.Mathlib.Omega.{arith}
 use lib.Dec.{eqb, ltb, leb}
 use lib.ListN.{length, getD, drop, replicate, length-take, length-replicate}
@@ -13,52 +13,44 @@ use borrow.Author.Tests.{lt-ltb, le-leb, eq-eqb, ne-eqb, ltb-true, ltb-false, le
 use Rattle.rules.specs.declared.Sizes.{Sizes}
 use Rattle.rules.specs.declared.Directory.{Directory}
 use Rattle.rules.specs.declared.Task.{Task}
-use Rattle.rules.specs.declared.Chunk.{Chunk}
 use Rattle.rules.specs.declared.ChunkNo.{ChunkNo}
 use Rattle.rules.specs.declared.EntryNo.{EntryNo}
-use Rattle.rules.specs.Words.{pick, _and_, _or_, NONE, chunkNo, entryNo, noEntry, unused, live, new, retired, usesFunction, idle, toDrain, toCopy, toSwap, toRelease}
-use Rattle.rules.specs.Tables.{Tables, idleTask, emptyChunk, emptyEntry, emptyStack, chunk, entryAt, entry, mark, task, stack}
-use Rattle.rules.specs.Walks.{over}
+use Rattle.rules.specs.Words.{pick, _and_, _or_, NONE, chunkNo, entryNo, noEntry, unused, live, new, retired, usesFunction, idle, toDrain, toCopy, toSwap, toIndex, toRelease}
+use Rattle.rules.specs.Tables.{Tables, idleTask, emptyChunk, emptyEntry, emptyStack, emptyRow, emptyIndex, chunk, entryAt, entry, mark, task, stack}
+use Rattle.rules.specs.Walks.{over, rowOf}
 use Rattle.rules.specs.Map.{Ascends}
 use Rattle.rules.specs.Rebalance.{unusedCount}
-use Rattle.rules.specs.Shape.{each, slotsOf, isNone, isEmptyChunk, fitsOperation, Hold, hold, stageList, liveCount, markAs, shape, sized, chunkRight, slotRight, chunkNumbers, chained, taskRight, risesFrom, stackRight, holdsRight, holdsEntry, chunkFits, rebalanceFits, ascendsFrom, beforeCopy, afterCopy}
+use Rattle.rules.specs.Shape.{each, slotsOf, isNone, isEmptyChunk, fitsOperation, Hold, hold, stageList, liveCount, markAs, shape, sized, chunkRight, slotRight, chunkNumbers, chained, taskRight, risesFrom, stackRight, holdsRight, holdsEntry, chunkFits, rebalanceFits, ascendsFrom, beforeCopy, afterCopy, namesChunk, rowsAscend, indexRight}
 use Rattle.rules.proofs.Tests.{from-picked}
+use Rattle.rules.proofs.Fresh.{empty-rows}
 use Rattle.laws.specs.Counts.{Every, all}
 use Rattle.laws.proofs.Tests.{picked, by-test, both, and-right, or-cases, or-left, or-right}
 use Rattle.laws.proofs.Lists.{each-by, all-at}
-use Rattle.views.specs.Views.{Links}
+use Rattle.views.specs.Views.{Links, Chained}
 use Rattle.views.proofs.Entries.{links-below, links-length, links-ascends, links-linked}
 use Rattle.views.proofs.Stacks.{all-none, over-length}
 use Rattle.views.proofs.Chunks.{chain-count, chain-live}
+use Rattle.views.proofs.Chained.{chain-short}
 use Rattle.facts.proofs.Numbers.{number-cases, held-always, head-right}
 use Rattle.statements.specs.Sound.{Limited}
-use Rattle.facts.specs.Facts.{RowRight, SlotRight, listed, Chained, Roles, Rebalancing, Tabled, Holds, holdAt, EntryHeld, Stacked, MarksHeld, Kept}
-
-live-count-le : (cs : List Chunk) → liveCount cs ≤ length cs
-unfolding liveCount
-live-count-le [] = omega arith
-live-count-le (x ∷ cs) = picked (λ (n : ℕ). n ≤ suc (length cs)) (eqb (x .status) live) (λ _. omega (arith, live-count-le cs)) (λ _. omega (arith, live-count-le cs))
-
--- the chain has at most as many chunks as there are
-pub chain-short : (z : Sizes) (cs : List Chunk) (first : ChunkNo) → length cs ≡ z .chunks → (c : Chained z first cs) → length (first ∷ c .rest) ≤ z .chunks
-chain-short z cs first len c = rw (c .counted, ← len) (live-count-le cs)
+use Rattle.facts.specs.Facts.{RowRight, SlotRight, listed, Roles, Rebalancing, Tabled, Holds, holdAt, EntryHeld, Stacked, MarksHeld, Indexed, Kept}
 
 -- an entry is held always or never
-rows-right : all (λ h. leb (h .entry) 1) stageList ≡ true
+always-or-never : all (λ h. leb (h .entry) 1) stageList ≡ true
 unfolding all
-rows-right = refl
+always-or-never = refl
 
 empty-by : (l : List EntryNo) → (l ≢ [] → ⊥) → l ≡ []
 empty-by [] h = refl
 empty-by (x ∷ l) h = absurd (h (λ e. omega (arith, ap length e)))
 
-module _ (z : Sizes) (lim : Limited z) (s : Tables) (kept : Kept z s) (deleted : MarksHeld z s) where
+module _ (z : Sizes) (lim : Limited z) (s : Tables) (kept : Kept z s) (deleted : MarksHeld z s) (indexed : Indexed z s) where
   tables : Tabled z (s .directory) (s .chunks) (s .entries)
   tables = kept .tables
 
   sized-right : sized z s ≡ true
-  sized-right = rw (kept .stacks-sized, kept .tasks-sized, tables .chunks-sized, tables .entries-sized, kept .values-sized, kept .marks-sized, eq-eqb (z .tasks) (z .tasks) refl, eq-eqb (z .chunks) (z .chunks) refl, eq-eqb (z .chunks * z .entries) (z .chunks * z .entries) refl, eq-eqb (z .handles) (z .handles) refl)
-      (each-by (λ n (w : List EntryNo). eqb (length w) (z .entries)) 0 (s .stacks) [] (λ n b. let k = kept .stacks n (rw (kept .stacks-sized) at b) in eq-eqb _ _ (ap length (k .words) ∙ over-length (k .on) (emptyStack z) ∙ length-replicate (z .entries) noEntry)))
+  sized-right = rw (ap length (indexed .rows), over-length (map (rowOf (s .chunks)) (indexed .chunks)) (emptyIndex z), length-replicate (z .chunks) emptyRow, kept .stacks-sized, kept .tasks-sized, tables .chunks-sized, tables .entries-sized, kept .values-sized, kept .marks-sized, eq-eqb (z .tasks) (z .tasks) refl, eq-eqb (z .chunks) (z .chunks) refl, eq-eqb (z .chunks * z .entries) (z .chunks * z .entries) refl, eq-eqb (z .handles) (z .handles) refl)
+      (both _ _ (each-by (λ n (w : List EntryNo). eqb (length w) (z .entries)) 0 (s .stacks) [] (λ n b. let k = kept .stacks n (rw (kept .stacks-sized) at b) in eq-eqb _ _ (ap length (k .words) ∙ over-length (k .on) (emptyStack z) ∙ length-replicate (z .entries) noEntry))) refl)
 
   marks-right : each (λ n m. leb m 1) 0 (s .marks) ≡ true
   marks-right = each-by (λ n m. leb m 1) 0 (s .marks) 0 (λ i b. le-leb _ _ (kept .marks i))
@@ -120,19 +112,19 @@ module _ (z : Sizes) (lim : Limited z) (s : Tables) (kept : Kept z s) (deleted :
   roles-right : (i : ℕ) → i < z .chunks → chunkFits z s (s .directory) i (chunk s (chunkNo i)) ≡ true
   roles-right i b =
       by-test (eqb (s .directory .old .0) i)
-      (λ t. rw (t, roles .old (eqb-true _ _ t) .0, roles .old (eqb-true _ _ t) .1) (eq-eqb (pick (eqb (s .directory .stage) toRelease) retired live) (pick (eqb (s .directory .stage) toRelease) retired live) refl))
+      (λ t. rw (t, roles .old (eqb-true _ _ t) .0, roles .old (eqb-true _ _ t) .1) (eq-eqb (pick (leb toIndex (s .directory .stage)) retired live) (pick (leb toIndex (s .directory .stage)) retired live) refl))
       (λ t. rw t (by-test (eqb (s .directory .new .0) i or eqb (s .directory .second .0) i) (is-new (eqb-false _ _ t)) (is-other (eqb-false _ _ t))))
     where
       roles : Roles (s .directory) i (chunk s (chunkNo i))
       roles = tables .rebalancing .roles (chunkNo i) b
 
       Fits : Type 0
-      Fits = (eqb (chunk s (chunkNo i) .frozen) 0 and pick (eqb (s .directory .new .0) i or eqb (s .directory .second .0) i) (eqb (chunk s (chunkNo i) .status) (pick (eqb (s .directory .stage) toRelease) live new)) (eqb (chunk s (chunkNo i) .status) unused or eqb (chunk s (chunkNo i) .status) live)) ≡ true
+      Fits = (eqb (chunk s (chunkNo i) .frozen) 0 and pick (eqb (s .directory .new .0) i or eqb (s .directory .second .0) i) (eqb (chunk s (chunkNo i) .status) (pick (leb toIndex (s .directory .stage)) live new)) (eqb (chunk s (chunkNo i) .status) unused or eqb (chunk s (chunkNo i) .status) live)) ≡ true
 
       is-new : s .directory .old .0 ≢ i → (eqb (s .directory .new .0) i or eqb (s .directory .second .0) i) ≡ true → Fits
-      is-new ne t = rw (t, role .0, role .1) (eq-eqb (pick (eqb (s .directory .stage) toRelease) live new) (pick (eqb (s .directory .stage) toRelease) live new) refl)
+      is-new ne t = rw (t, role .0, role .1) (eq-eqb (pick (leb toIndex (s .directory .stage)) live new) (pick (leb toIndex (s .directory .stage)) live new) refl)
         where
-          role : (chunk s (chunkNo i) .frozen ≡ 0) × (chunk s (chunkNo i) .status ≡ pick (eqb (s .directory .stage) toRelease) live new)
+          role : (chunk s (chunkNo i) .frozen ≡ 0) × (chunk s (chunkNo i) .status ≡ pick (leb toIndex (s .directory .stage)) live new)
           role = roles .new ne (⊎-map (eqb-true (s .directory .new .0) i) (eqb-true (s .directory .second .0) i) (or-cases (eqb (s .directory .new .0) i) (eqb (s .directory .second .0) i) t))
 
       is-other : s .directory .old .0 ≢ i → (eqb (s .directory .new .0) i or eqb (s .directory .second .0) i) ≡ false → Fits
@@ -153,7 +145,7 @@ module _ (z : Sizes) (lim : Limited z) (s : Tables) (kept : Kept z s) (deleted :
       Stages : ℕ → Type 0
       Stages n = pick (eqb n idle) (isNone (d .old .0) and isNone (d .new .0) and isNone (d .second .0))
           (pick (eqb n toDrain or eqb n toCopy) (beforeCopy z s)
-          (pick (eqb n toSwap or eqb n toRelease) (afterCopy z s) false)) ≡ true
+          (pick (leb toSwap n and leb n toRelease) (afterCopy z s) false)) ≡ true
 
       before : 1 ≤ d .stage → d .stage ≤ 2 → beforeCopy z s ≡ true
       before a b = rw (r .unmade b .0, r .unmade b .1, lt-ltb (d .old .0) (z .chunks) (r .old a), le-leb 2 (unusedCount (s .chunks)) (r .room a b))
@@ -161,15 +153,16 @@ module _ (z : Sizes) (lim : Limited z) (s : Tables) (kept : Kept z s) (deleted :
       after : 3 ≤ d .stage → afterCopy z s ≡ true
       after a = rw (lt-ltb (d .old .0) (z .chunks) (r .old (omega arith)), lt-ltb (d .new .0) (z .chunks) (r .new a), r .second a, ne-eqb (d .new .0) (d .second .0) (r .apart a), ne-eqb (d .old .0) (d .new .0) (r .old-new a), ne-eqb (d .old .0) (d .second .0) (r .old-second a))
 
-      at : (n : ℕ) → d .stage ≡ n → n ≤ 4 → Stages n
+      at : (n : ℕ) → d .stage ≡ n → n ≤ 5 → Stages n
       at zero e b = rw (r .none e, r .unmade (omega arith) .0, r .unmade (omega arith) .1)
       at (suc zero) e b = before (omega arith) (omega arith)
       at (suc (suc zero)) e b = before (omega arith) (omega arith)
       at (suc (suc (suc zero))) e b = after (omega arith)
       at (suc (suc (suc (suc zero)))) e b = after (omega arith)
-      at (suc (suc (suc (suc (suc n))))) e b = absurd (over n b)
+      at (suc (suc (suc (suc (suc zero))))) e b = after (omega arith)
+      at (suc (suc (suc (suc (suc (suc n)))))) e b = absurd (over n b)
         where
-          over : (n : ℕ) → suc (suc (suc (suc (suc n)))) ≤ 4 → ⊥
+          over : (n : ℕ) → suc (suc (suc (suc (suc (suc n))))) ≤ 5 → ⊥
           over n b = omega arith
 
       stages : Stages (d .stage)
@@ -200,7 +193,7 @@ module _ (z : Sizes) (lim : Limited z) (s : Tables) (kept : Kept z s) (deleted :
       h = holdAt (t .stage)
 
       row : leb (h .entry) 1 ≡ true
-      row = all-at (λ h. leb (h .entry) 1) stageList (t .stage) (hold 0 0 0 0 0 0) rows-right refl
+      row = all-at (λ h. leb (h .entry) 1) stageList (t .stage) (hold 0 0 0 0 0 0) always-or-never refl
 
       not-two : eqb (h .entry) 2 ≡ false
       not-two = ne-eqb (h .entry) 2 (λ e. omega (arith, leb-true (h .entry) 1 row))
@@ -260,9 +253,24 @@ module _ (z : Sizes) (lim : Limited z) (s : Tables) (kept : Kept z s) (deleted :
       nothing : (eqb (task s n .stage) 23 and ltb (task s n .chunk .0) (z .chunks)) ≡ false → k .on ≡ []
       nothing e = empty-by (k .on) (λ ne. absurd (false≢true (sym e ∙ both _ _ (eq-eqb _ _ (k .held ne .0)) (lt-ltb _ _ (k .held ne .1)))))
 
+  -- the rows of the index, by the chunks that they name
+  rows-right : (l : List ChunkNo) (n k : ℕ) → length l ≤ n → Every (λ c. (c .0 < z .chunks) × ((chunk s c .status ≡ live) ⊎ (chunk s c .status ≡ retired))) l → Ascends (λ c. chunk s c .min) k l →
+      rowsAscend z (s .chunks) (length l) k (over (map (rowOf (s .chunks)) l) (replicate n emptyRow)) ≡ true
+  unfolding rowsAscend over Ascends
+  rows-right [] n k b named rises = empty-rows z (s .chunks) k n
+  rows-right (c ∷ l) zero k b named rises = absurd (not-suc-le-zero b)
+  rows-right (c ∷ l) (suc n) k b named rises =
+      let here = named c (List·Memᴰ·head refl) in
+      both _ _ (le-leb _ _ (rises .0))
+      (both (namesChunk z (s .chunks) (rowOf (s .chunks) c)) _ (both _ _ (lt-ltb _ _ (here .0)) (both (eqb (chunk s c .status) live or eqb (chunk s c .status) retired) _ (⊎-elim (λ q. rw q) (λ q. rw q) (here .1)) (eq-eqb (chunk s c .min) (chunk s c .min) refl)))
+      (rows-right l n _ (le-of-suc-le-suc b) (λ x m. named x (List·Memᴰ·tail m)) (rises .1)))
+
+  index-right : indexRight z s ≡ true
+  index-right = rw (indexed .rows, indexed .count) (rows-right (indexed .chunks) (z .chunks) 0 (indexed .short) (indexed .named) (indexed .ascends))
+
   pub has-shape : shape z s ≡ true
   unfolding shape
-  has-shape = both _ _ sized-right (both _ _ marks-right (both _ _ (lt-ltb _ _ first) (both _ _ chunks-right (both _ _ chain-right (both _ _ (each-by (taskRight z s) 0 (s .tasks) idleTask (λ i b. task-right i)) (both _ _ (each-by (stackRight z s) 0 (s .tasks) idleTask (λ i b. rw (zero-add i) (stack-right i (rw (kept .tasks-sized) at b)))) rebalance-right))))))
+  has-shape = both _ _ sized-right (both _ _ marks-right (both _ _ (lt-ltb _ _ first) (both _ _ chunks-right (both _ _ chain-right (both _ _ (each-by (taskRight z s) 0 (s .tasks) idleTask (λ i b. task-right i)) (both _ _ (each-by (stackRight z s) 0 (s .tasks) idleTask (λ i b. rw (zero-add i) (stack-right i (rw (kept .tasks-sized) at b)))) (both _ _ rebalance-right index-right)))))))
     where
       first : s .directory .first .0 < z .chunks
       first = chain-live z (s .chunks) 0 _ _ (tables .chained .chain) (s .directory .first) (List·Memᴰ·head refl) .0

@@ -12,7 +12,7 @@ use Rattle.rules.specs.declared.Sizes.{Sizes}
 use Rattle.rules.specs.declared.Directory.{Directory}
 use Rattle.rules.specs.declared.Chunk.{Chunk}
 use Rattle.rules.specs.declared.ChunkNo.{ChunkNo}
-use Rattle.rules.specs.Words.{pick, NONE, chunkNo, live, new, retired, toSwap, toRelease}
+use Rattle.rules.specs.Words.{pick, NONE, chunkNo, live, new, retired, toSwap, toIndex}
 use Rattle.rules.specs.Tables.{Tables, emptyChunk, chunkAt, chunk, withDirectory, withChunks, putChunk}
 use Rattle.rules.specs.Rebalance.{withStatus, liveBefore, withNextChunk, hasSecond, swapsIn}
 use Rattle.rules.specs.Shape.{liveCount}
@@ -187,7 +187,7 @@ module _ (z : Sizes) (lim : Limited z) (s : Tables) (kept : Kept z s) (swapping 
         at-b = put-ne cs a row-a b (λ r. a-b (sym r)) ∙ w .other b (λ ne r. p-b ne i (sym r))
 
   abbrev then-at : Directory
-  then-at = record { first = pick (eqb (first .0) (old .0)) a first; stage = toRelease; old = old; new = a; second = b }
+  then-at = record { first = pick (eqb (first .0) (old .0)) a first; stage = toIndex; old = old; new = a; second = b; indexed = s .directory .indexed }
 
   -- what holds of the tables by what swap in makes of the chunks holds of those that it leaves: the chunk before written or not, the second new chunk written or not
   module _ (P : Tables → Type 0) (by : (cs : List Chunk) → Swapped z s cs → P (withDirectory (withChunks s cs) then-at)) where

@@ -13,21 +13,21 @@ use Rattle.rules.specs.declared.Directory.{Directory}
 use Rattle.rules.specs.declared.Task.{Task}
 use Rattle.rules.specs.declared.Chunk.{Chunk}
 use Rattle.rules.specs.declared.ChunkNo.{ChunkNo}
-use Rattle.rules.specs.Words.{pick, NONE, chunkNo, unused, live, new, retired, toSwap, toRelease}
+use Rattle.rules.specs.Words.{pick, NONE, chunkNo, unused, live, new, retired, toSwap, toIndex}
 use Rattle.rules.specs.Tables.{Tables, chunkAt, entryAt, chunk, task, withDirectory, withChunks}
 use Rattle.rules.specs.Walks.{InRange}
 use Rattle.rules.specs.Rebalance.{withStatus, liveBefore, withNextChunk}
 use Rattle.rules.specs.Shape.{numbers}
 use Rattle.laws.specs.Counts.{Every, Apart}
 use Rattle.laws.proofs.Tests.{picked}
-use Rattle.views.specs.Views.{Links, Chain, replaced}
+use Rattle.views.specs.Views.{Links, Chain, replaced, Chained}
 use Rattle.views.proofs.Rows.{in-use-row}
 use Rattle.views.proofs.Chunks.{chain-live, chain-swap, chain-swap-first, chain-raise, chain-apart, chain-rises, before-next, replaced-new, replaced-old, replaced-length}
+use Rattle.views.proofs.Chained.{chain-short}
 use Rattle.statements.specs.Sound.{Limited}
-use Rattle.facts.specs.Facts.{RowRight, ListRight, listed, Chained, KeyInRange, Roles, Made, Rebalancing, Tabled, ChunkOfKey, EntryHeld, Tasked, Leaves, Kept}
+use Rattle.facts.specs.Facts.{RowRight, ListRight, listed, KeyInRange, Roles, Made, Rebalancing, Tabled, ChunkOfKey, EntryHeld, Tasked, Leaves, Kept}
 use Rattle.facts.specs.Swapped.{newOnes, beforeOld, Swapped}
 use Rattle.facts.proofs.Numbers.{number-in, number-cases}
-use Rattle.facts.proofs.Shapes.{chain-short}
 use Rattle.facts.proofs.Stacking.{stacked-kept}
 use Rattle.facts.proofs.Sames.{list-quiet}
 use Rattle.facts.proofs.Writes.{same-chunk}
@@ -318,7 +318,7 @@ module _ (z : Sizes) (lim : Limited z) (s : Tables) (kept : Kept z s) (swapping 
 
     -- ---- the rebalance and the tasks
     abbrev then-at : Directory
-    then-at = record { first = start; stage = toRelease; old = old; new = a; second = b }
+    then-at = record { first = start; stage = toIndex; old = old; new = a; second = b; indexed = s .directory .indexed }
 
     roles : (f : ChunkNo) → f .0 < z .chunks → Roles then-at (f .0) (chunkAt cs f)
     roles f i =
@@ -353,7 +353,7 @@ module _ (z : Sizes) (lim : Limited z) (s : Tables) (kept : Kept z s) (swapping 
         held y = record { inside = y .inside; used = rw (alike (t .chunk) (y .inside) .2) (y .used); keyed = y .keyed; linked = λ o. rw (quiet (t .chunk) (y .inside) .0) (y .linked o) }
 
     abbrev pub then : Tables
-    then = withDirectory (withChunks s cs) (record { first = pick (eqb (s .directory .first .0) (s .directory .old .0)) (s .directory .new) (s .directory .first); stage = toRelease; old = s .directory .old; new = s .directory .new; second = s .directory .second })
+    then = withDirectory (withChunks s cs) (record { first = pick (eqb (s .directory .first .0) (s .directory .old .0)) (s .directory .new) (s .directory .first); stage = toIndex; old = s .directory .old; new = s .directory .new; second = s .directory .second; indexed = s .directory .indexed })
 
     pub swapped-leaves : (f : ChunkNo) → Leaves z s then f
     swapped-leaves f = record { tasked = λ t _ r. task-right t r; min = λ u. alike f (rw (h .chunks-sized) at (in-use-row (s .chunks) f u)) .0 }

@@ -3,7 +3,7 @@ use Prim.Native.Nat.{ℕ, _<_}
 use mathlib.Core.Path.{_≡_, refl, ap, _∙_}
 use mathlib.Core.Logic.{_≢_}
 use mathlib.Core.Bool.{Bool, true, false, false≢true}
-use mathlib.Core.List.{[]}
+use mathlib.Core.List.{List, []}
 use native.Mathlib.Omega.{arith}
 use native.Mathlib.Decide.{ℕ-discrete}
 use lib.Dec.{eqb, ltb, leb}
@@ -11,10 +11,11 @@ use lib.ListN.{length, getD, set, length-set}
 use lib.Seq.{getD-set-same, getD-set-other}
 use borrow.Author.Tests.{lt-ltb, le-leb, ltb-false, leb-false, eqb-true}
 use Rattle.rules.specs.declared.Sizes.{Sizes}
+use Rattle.rules.specs.declared.Task.{Task}
 use Rattle.rules.specs.declared.ChunkNo.{ChunkNo}
 use Rattle.rules.specs.declared.Decision.{Decision}
 use Rattle.rules.specs.Words.{pick, _and_, _or_, NONE, usesFunction, scan, scanDown, isScan}
-use Rattle.rules.specs.Tables.{Tables, idleTask, task, putTask, stack}
+use Rattle.rules.specs.Tables.{Tables, idleTask, withTasks, task, putTask, stack}
 use Rattle.rules.specs.Stages
 use Rattle.rules.specs.Rebalance.{Outcome}
 use Rattle.rules.specs.Calls.{firstStage, started, starts, steps}
@@ -30,6 +31,17 @@ use Rattle.facts.proofs.Going.{Fine, no-chunk, no-entry}
 use Rattle.facts.proofs.Ends.{decides-fine}
 use Rattle.facts.proofs.Stacking.{same-leaves, none-stacked, stack-empty, stacked-kept, own-stacked}
 
+-- what holds of the tables, and with whatever tasks' rows, holds after a start
+pub start-by : (z : Sizes) (s : Tables) (P : Tables → Type 0) → P s → ((ts : List Task) → P (withTasks s ts)) → (n op k a f : ℕ) → P (starts z s n op k a f .tables)
+start-by z s P same put n op k a f =
+    picked O (leb (z .tasks) n) (λ _. same)
+    (λ _. picked O (eqb (task s n .stage) 0)
+    (λ _. picked O (ltb op 1 or ltb 8 op or (usesFunction op and (ltb f 1 or ltb 3 f))) (λ _. same) (λ _. picked O (isScan op and ltb a k) (λ _. same) (λ _. put _)))
+    (λ _. same))
+  where
+    O : Outcome → Type 0
+    O o = P (o .tables)
+
 module _ (z : Sizes) (lim : Limited z) (s : Tables) (kept : Kept z s) where
   -- ---- a step
   module _ (n : ℕ) where
@@ -42,23 +54,23 @@ module _ (z : Sizes) (lim : Limited z) (s : Tables) (kept : Kept z s) where
     abbrev s′ : Tables
     s′ = Stages.apply z (Stages.putOwn z s n (x .task)) (x .write)
 
-    a : Applied z (Stages.putOwn z s n (x .task)) s′
-    a = applied-by z lim (Stages.putOwn z s n (x .task)) (kept .tables) (x .write) (fine .allowed)
+    pub step-applied : Applied z (Stages.putOwn z s n (x .task)) s′
+    step-applied = applied-by z lim (Stages.putOwn z s n (x .task)) (kept .tables) (x .write) (fine .allowed)
 
     done-leaves : (c : ChunkNo) → Leaves z s s′ c
-    done-leaves c = record { tasked = λ t _ r. a .written .tasks t r; min = λ _. a .written .same .min c }
+    done-leaves c = record { tasked = λ t _ r. step-applied .written .tasks t r; min = λ _. step-applied .written .same .min c }
 
     step-done : n < z .tasks → Kept z s′
     step-done b =
         record {
-          tasks-sized = ap length (a .tasks) ∙ length-set (s .tasks) n (x .task) ∙ kept .tasks-sized;
-          values-sized = a .values-sized ∙ kept .values-sized;
-          marks-sized = a .marks-sized ∙ kept .marks-sized;
-          marks = a .marks (kept .marks);
-          tables = rw (a .directory) (a .written .tables);
-          tasks = λ m. rw (a .tasks) (set-keeps (Tasked z (s′ .chunks) (s′ .entries)) (s .tasks) n (x .task) idleTask (fine .task _ _) (λ j. a .written .tasks (task s j) (kept .tasks j)) m);
-          stacks-sized = ap length (a .stacks) ∙ length-set (s .stacks) n _ ∙ kept .stacks-sized;
-          stacks = λ m i. rw (a .tasks, a .stacks) (elim (ℕ-discrete m n) [ yes e ↦ own m e | no ne ↦ others m ne i ]);
+          tasks-sized = ap length (step-applied .tasks) ∙ length-set (s .tasks) n (x .task) ∙ kept .tasks-sized;
+          values-sized = step-applied .values-sized ∙ kept .values-sized;
+          marks-sized = step-applied .marks-sized ∙ kept .marks-sized;
+          marks = step-applied .marks (kept .marks);
+          tables = rw (step-applied .directory) (step-applied .written .tables);
+          tasks = λ m. rw (step-applied .tasks) (set-keeps (Tasked z (s′ .chunks) (s′ .entries)) (s .tasks) n (x .task) idleTask (fine .task _ _) (λ j. step-applied .written .tasks (task s j) (kept .tasks j)) m);
+          stacks-sized = ap length (step-applied .stacks) ∙ length-set (s .stacks) n _ ∙ kept .stacks-sized;
+          stacks = λ m i. rw (step-applied .tasks, step-applied .stacks) (elim (ℕ-discrete m n) [ yes e ↦ own m e | no ne ↦ others m ne i ]);
         }
       where
         own : (m : ℕ) → m ≡ n → Stacked z (s′ .chunks) (s′ .entries) (getD (set (s .tasks) n (x .task)) m idleTask) (getD (set (s .stacks) n (Stages.stackThen z s (task s n) n)) m [])
@@ -114,15 +126,7 @@ module _ (z : Sizes) (lim : Limited z) (s : Tables) (kept : Kept z s) where
         first-holds n c is fits = rw is (record { fits = fits; function = started-function; chunk = c; entry = refl; old = refl; new = refl; published = refl; swapped = refl })
 
   pub start-leaves : (n op k a f : ℕ) (c : ChunkNo) → Leaves z s (starts z s n op k a f .tables) c
-  start-leaves n op k a f c =
-      picked L (leb (z .tasks) n) (λ _. same-leaves z s c)
-      (λ _. picked L (eqb (task s n .stage) 0)
-      (λ _. picked L (ltb op 1 or ltb 8 op or (usesFunction op and (ltb f 1 or ltb 3 f))) (λ _. same-leaves z s c)
-      (λ _. picked L (isScan op and ltb a k) (λ _. same-leaves z s c) (λ _. record { tasked = λ t _ r. r; min = λ _. refl })))
-      (λ _. same-leaves z s c))
-    where
-      L : Outcome → Type 0
-      L o = Leaves z s (o .tables) c
+  start-leaves n op k a f c = start-by z s (λ x. Leaves z s x c) (same-leaves z s c) (λ ts. record { tasked = λ t _ r. r; min = λ _. refl }) n op k a f
 
   pub start-kept : (n op k a f : ℕ) → Kept z (starts z s n op k a f .tables)
   start-kept n op k a f =

@@ -3,7 +3,7 @@ use Prim.Native.Nat.{ℕ, _*_, _≤_, _<_}
 use mathlib.Core.Path.{_≡_}
 use mathlib.Core.Logic.{_⊎_, _≢_}
 use mathlib.Core.Bool.{true}
-use mathlib.Core.List.{List, [], _∷_, List·Memᴰ}
+use mathlib.Core.List.{List, [], List·Memᴰ, map}
 use lib.Dec.{eqb, leb}
 use lib.ListN.{length, getD}
 use Rattle.rules.specs.declared.Sizes.{Sizes}
@@ -15,14 +15,14 @@ use Rattle.rules.specs.declared.ChunkNo.{ChunkNo}
 use Rattle.rules.specs.declared.EntryNo.{EntryNo}
 use Rattle.rules.specs.declared.Write.{Write}
 use Rattle.rules.specs.declared.Write.the-variants as write
-use Rattle.rules.specs.Words.{pick, _and_, NONE, noEntry, unused, live, new, retired, scanDown, usesFunction, idle, toCopy, toSwap, toRelease}
-use Rattle.rules.specs.Tables.{Tables, idleTask, emptyChunk, emptyEntry, emptyStack, chunkAt, entryAt, mark, task, stack}
-use Rattle.rules.specs.Walks.{listFrom, placeFrom, over, InRange}
+use Rattle.rules.specs.Words.{pick, _and_, NONE, noEntry, unused, live, new, retired, scanDown, usesFunction, idle, toCopy, toSwap, toIndex, toRelease}
+use Rattle.rules.specs.Tables.{Tables, idleTask, emptyChunk, emptyEntry, emptyStack, emptyIndex, chunkAt, entryAt, chunk, mark, task, stack}
+use Rattle.rules.specs.Walks.{listFrom, placeFrom, over, rowOf, chain, InRange}
 use Rattle.rules.specs.Map.{Ascends}
 use Rattle.rules.specs.Rebalance.{unusedCount}
 use Rattle.rules.specs.Shape.{numbers, heldAs, flagAs, fitsOperation, Hold, hold, stageList, liveCount}
 use Rattle.laws.specs.Counts.{Every}
-use Rattle.views.specs.Views.{Links, Chain}
+use Rattle.views.specs.Views.{Links, Chained}
 
 -- ---- a chunk with its slots
 pub record RowRight (z : Sizes) (x : Chunk) : Type 0 where
@@ -47,13 +47,6 @@ pub record ListRight (z : Sizes) (cs : List Chunk) (es : List Entry) (c : ChunkN
   pub links : Links z es c (chunkAt cs c .used) 0 (chunkAt cs c .head) (listed z cs es c)
 
 -- ---- the live chunks
-pub record Chained (z : Sizes) (first : ChunkNo) (cs : List Chunk) : Type 0 where
-  pub rest : List ChunkNo
-  pub chain : Chain z cs 0 first (first ∷ rest)
-  pub from : chunkAt cs first .min ≡ 0
-  pub counted : length (first ∷ rest) ≡ liveCount cs
-  pub every : (c : ChunkNo) → c .0 < z .chunks → chunkAt cs c .status ≡ live → List·Memᴰ c (first ∷ rest)
-
 -- key-in-range: a linked key of a live chunk lies in its range
 abbrev pub KeyInRange : Sizes → List Chunk → List Entry → Type 0
 KeyInRange z cs es = (c : ChunkNo) → c .0 < z .chunks → chunkAt cs c .status ≡ live → Every (λ e. InRange z cs c (entryAt z es c e .key)) (listed z cs es c)
@@ -61,8 +54,8 @@ KeyInRange z cs es = (c : ChunkNo) → c .0 < z .chunks → chunkAt cs c .status
 -- ---- the rebalance
 -- the old chunk, the new ones, and all others: what each is, by the rebalance's stage
 pub record Roles (d : Directory) (n : ℕ) (x : Chunk) : Type 0 where
-  pub old : d .old .0 ≡ n → (x .frozen ≡ 1) × (x .status ≡ pick (eqb (d .stage) toRelease) retired live)
-  pub new : d .old .0 ≢ n → (d .new .0 ≡ n) ⊎ (d .second .0 ≡ n) → (x .frozen ≡ 0) × (x .status ≡ pick (eqb (d .stage) toRelease) live new)
+  pub old : d .old .0 ≡ n → (x .frozen ≡ 1) × (x .status ≡ pick (leb toIndex (d .stage)) retired live)
+  pub new : d .old .0 ≢ n → (d .new .0 ≡ n) ⊎ (d .second .0 ≡ n) → (x .frozen ≡ 0) × (x .status ≡ pick (leb toIndex (d .stage)) live new)
   pub other : d .old .0 ≢ n → d .new .0 ≢ n → d .second .0 ≢ n → (x .frozen ≡ 0) × ((x .status ≡ unused) ⊎ (x .status ≡ live))
 
 -- between copy and swap in: the new chunks' minimum keys and keys lie in the old one's range, the second's from its minimum key on
@@ -172,6 +165,16 @@ Allowed z cs es (write.Fresh h) = Unit {0}
 Allowed z cs es (write.Store h v) = Unit {0}
 Allowed z cs es (write.Delete h) = Unit {0}
 Allowed z cs es (write.Name c e h) = (c .0 < z .chunks) × (e .0 < chunkAt cs c .used) × (numbers (z .handles) (h .0) ≡ true)
+
+-- indexed: the index has a row for each of these chunks, live or retired ones, minimum keys ascending, and is empty past them; they are the live chunks, but for between swap in and index
+pub record Indexed (z : Sizes) (s : Tables) : Type 0 where
+  pub chunks : List ChunkNo
+  pub rows : s .index ≡ over (map (rowOf (s .chunks)) chunks) (emptyIndex z)
+  pub count : s .directory .indexed ≡ length chunks
+  pub short : length chunks ≤ z .chunks
+  pub named : Every (λ c. (c .0 < z .chunks) × ((chunk s c .status ≡ live) ⊎ (chunk s c .status ≡ retired))) chunks
+  pub ascends : Ascends (λ c. chunk s c .min) 0 chunks
+  pub lives : s .directory .stage ≢ toIndex → chunks ≡ chain z s
 
 -- what a call leaves of a chunk that is held: what a task holds there, and its minimum key
 pub record Leaves (z : Sizes) (s x : Tables) (c : ChunkNo) : Type 0 where

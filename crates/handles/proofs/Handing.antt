@@ -1,12 +1,12 @@
 -- What each call does to the tasks' holds, and that no held handle is handed out.
-use Prim.Native.Nat.{ℕ, _+_, _/_, _≤_, _<_}
+use Prim.Native.Nat.{ℕ, _≤_, _<_}
 use mathlib.Core.Path.{_≡_, refl, sym, ap, _∙_}
 use mathlib.Core.Logic.{_⊎_, inl, inr, ⊎-elim, _≢_}
 use mathlib.Core.List.{List}
 use native.Mathlib.Decide.{ℕ-discrete, decLt}
 use native.Mathlib.Omega.{arith}
 use lib.Dec.{eqb, ltb, leb}
-use lib.ListN.{length, getD, set, take, drop}
+use lib.ListN.{length, getD, set}
 use lib.Seq.{getD-set-same, getD-set-other, set-out}
 use borrow.Author.Tests.{leb-false}
 use Rattle.rules.specs.declared.Sizes.{Sizes}
@@ -19,20 +19,21 @@ use Rattle.rules.specs.declared.HandleNo.{HandleNo}
 use Rattle.rules.specs.declared.Write.{Write}
 use Rattle.rules.specs.declared.Write.the-variants as write
 use Rattle.rules.specs.declared.Decision.{Decision}
-use Rattle.rules.specs.Words.{_and_, _or_, NONE, entryNo, noChunk, noEntry, noHandle, usesFunction, isScan, idle, toDrain, toCopy, toSwap, toRelease}
+use Rattle.rules.specs.Words.{_and_, _or_, NONE, entryNo, noEntry, noHandle, usesFunction, isScan, idle, toDrain, toCopy, toSwap, toIndex, toRelease}
 use Rattle.rules.specs.Tables.{Tables, idleTask, emptyEntry, row, chunk, entry, task, putTask, withDirectory}
 use Rattle.rules.specs.Stages
-use Rattle.rules.specs.Rebalance.{Outcome, unusedCount, unusedFrom, publishedOn, heldChunk, namingFrom, makes, fill, at, begins, copies, swapsIn, releases, rebalanceDoes}
+use Rattle.rules.specs.Rebalance.{Outcome, unusedCount, publishedOn, heldChunk, begins, copies, swapsIn, releases, rebalanceDoes, atRest}
 use Rattle.rules.specs.Calls.{Call, started, starts, steps, does, calls}
 use Rattle.rules.specs.Calls.Call.{start, step, begin, rebalance}
 use Rattle.laws.proofs.Tests.{picked}
-use Rattle.views.proofs.Copies.{fill-is, clears-is}
+use Rattle.views.proofs.Copies.{clears-is}
 use Rattle.statements.specs.Runs.{tablesAt}
 use Rattle.statements.specs.Sound.{Limited, HoldsHandle, HandsOut}
 use Rattle.facts.specs.Facts.{Kept}
 use Rattle.facts.proofs.SwapIn.{swap-by}
 use Rattle.facts.proofs.Applying.{applied-by}
 use Rattle.facts.proofs.Ends.{decides-fine}
+use Rattle.facts.proofs.Copying.{copy-by}
 use Rattle.facts.proofs.Reaching.{call-by, reached-kept, run-reached}
 use Rattle.handles.proofs.Naming.{Passes, put}
 use Rattle.handles.proofs.Passing.{NamesRight, decides-pass}
@@ -43,29 +44,8 @@ module _ (z : Sizes) (s : Tables) where
   abbrev pub SameTasks : Tables → Type 0
   SameTasks x = (x .tasks ≡ s .tasks) × (x .values ≡ s .values) × (x .marks ≡ s .marks) × (x .stacks ≡ s .stacks)
 
-  fill-same : (x : Tables) (c : ChunkNo) (l : List Entry) → SameTasks x → SameTasks (fill z x c 0 l)
-  fill-same x c l e = rw (fill-is z c x 0 l) e
-
   copy-tasks : SameTasks (copies z s .tables)
-  copy-tasks =
-      picked (λ (o : Outcome). SameTasks (o .tables)) (leb (length l) (z .entries / 2))
-      (λ _. fill-same (withDirectory s (at z s toSwap a noChunk)) a l (refl, refl, refl, refl))
-      (λ _. fill-same (makes z (withDirectory s (at z s toSwap a b)) a (chunk s old .min) (take half l)) b (drop half l) (fill-same (withDirectory s (at z s toSwap a b)) a (take half l) (refl, refl, refl, refl)))
-    where
-      old : ChunkNo
-      old = s .directory .old
-
-      l : List Entry
-      l = namingFrom z (s .entries) old (z .entries) (chunk s old .head)
-
-      half : ℕ
-      half = (length l + 1) / 2
-
-      a : ChunkNo
-      a = unusedFrom (s .chunks) 0
-
-      b : ChunkNo
-      b = unusedFrom (drop (a .0 + 1) (s .chunks)) (a .0 + 1)
+  copy-tasks = copy-by z s SameTasks (λ c cs es _. (refl, refl, refl, refl))
 
   pub swap-tasks : SameTasks (swapsIn z s .tables)
   swap-tasks = swap-by z s SameTasks (refl, refl, refl, refl) (λ x e. e) (λ x e. e) (λ x e. e) (λ x e. e) (λ x d e. e)
@@ -74,7 +54,7 @@ module _ (z : Sizes) (s : Tables) where
   release-tasks = picked (λ (o : Outcome). SameTasks (o .tables)) (heldChunk (s .tasks) (s .directory .old)) (λ _. (refl, refl, refl, refl)) (λ _. rw (clears-is z (s .directory .old) s (z .entries) (withDirectory s to)) (refl, refl, refl, refl))
     where
       to : Directory
-      to = record { first = s .directory .first; stage = idle; old = noChunk; new = noChunk; second = noChunk }
+      to = atRest (s .directory)
 
   pub rebalance-tasks : SameTasks (does z s rebalance .tables)
   unfolding does rebalanceDoes
@@ -82,7 +62,8 @@ module _ (z : Sizes) (s : Tables) where
       picked Q (eqb (s .directory .stage) toDrain) (λ _. picked (λ (o : Outcome). SameTasks (o .tables)) (publishedOn (s .tasks) (s .directory .old)) (λ _. (refl, refl, refl, refl)) (λ _. (refl, refl, refl, refl)))
       (λ _. picked Q (eqb (s .directory .stage) toCopy) (λ _. copy-tasks)
       (λ _. picked Q (eqb (s .directory .stage) toSwap) (λ _. swap-tasks)
-      (λ _. picked Q (eqb (s .directory .stage) toRelease) (λ _. release-tasks) (λ _. (refl, refl, refl, refl)))))
+      (λ _. picked Q (eqb (s .directory .stage) toIndex) (λ _. (refl, refl, refl, refl))
+      (λ _. picked Q (eqb (s .directory .stage) toRelease) (λ _. release-tasks) (λ _. (refl, refl, refl, refl))))))
     where
       Q : (Sizes → Tables → Outcome) → Type 0
       Q f = SameTasks (f z s .tables)

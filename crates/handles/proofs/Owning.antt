@@ -19,7 +19,7 @@ use Rattle.rules.specs.declared.EntryNo.{EntryNo}
 use Rattle.rules.specs.declared.Decision.{Decision}
 use Rattle.rules.specs.declared.Write.{Write}
 use Rattle.rules.specs.declared.Write.the-variants as write
-use Rattle.rules.specs.Words.{_and_, _or_, NONE, entryNo, noHandle, noEntry, noChunk, usesFunction, isScan, idle, toDrain, toCopy, toSwap, toRelease}
+use Rattle.rules.specs.Words.{_and_, _or_, NONE, entryNo, noHandle, noEntry, noChunk, usesFunction, isScan, idle, toDrain, toCopy, toSwap, toIndex, toRelease}
 use Rattle.rules.specs.Tables.{Tables, idleTask, emptyChunk, emptyEntry, withDirectory, withChunks, withEntries, chunk, entryAt, entry, task, putTask, putChunk, row}
 use Rattle.rules.specs.Walks.{linked}
 use Rattle.rules.specs.Stages
@@ -31,7 +31,7 @@ use Rattle.views.proofs.Naming.{naming-every, every-take, every-drop}
 use Rattle.views.proofs.Copies.{fill-is, clears-is, filled-length, filled-other, filled-rows, cleared-other, cleared-here}
 use Rattle.statements.specs.Sound.{Limited}
 use Rattle.facts.specs.Facts.{Tabled, Waits, Allowed, Kept}
-use Rattle.rules.specs.Rebalance.{Outcome, unusedCount, publishedOn, heldChunk, namingFrom, unusedFrom, makes, at, clears, begins, drains, copies, swapsIn, releases, rebalanceDoes}
+use Rattle.rules.specs.Rebalance.{Outcome, unusedCount, publishedOn, heldChunk, namingFrom, unusedFrom, makes, at, clears, begins, drains, copies, swapsIn, releases, rebalanceDoes, atRest}
 use Rattle.rules.specs.Calls.{Call, started, starts, steps, does}
 use Rattle.rules.specs.Calls.Call.{start, step, begin, rebalance}
 use Rattle.facts.proofs.SwapIn.{swap-by}
@@ -247,7 +247,7 @@ module _ (z : Sizes) (lim : Limited z) (s : Tables) (kept : Kept z s) (own : Own
   release-owned e = picked (λ (o : Outcome). OwnedBy z (o .tables)) (heldChunk (s .tasks) (s .directory .old)) (λ _. own) (λ _. cleared-owned)
     where
       to : Directory
-      to = record { first = s .directory .first; stage = idle; old = noChunk; new = noChunk; second = noChunk }
+      to = atRest (s .directory)
 
       cleared-owned : OwnedBy z (putChunk (clears z s (z .entries) (withDirectory s to) (s .directory .old)) (s .directory .old) emptyChunk)
       cleared-owned = rw (clears-is z (s .directory .old) s (z .entries) (withDirectory s to)) (sourced-owned z (s .entries) (cleared z (s .directory .old) (z .entries) (s .entries)) (task s) (cleared-sourced z lim (s .entries) (kept .tables .entries-sized) (s .directory .old) (kept .tables .rebalancing .old (omega arith))) own)
@@ -261,7 +261,8 @@ module _ (z : Sizes) (lim : Limited z) (s : Tables) (kept : Kept z s) (own : Own
       picked Q (eqb (s .directory .stage) toDrain) (λ _. drain-owned)
       (λ _. picked Q (eqb (s .directory .stage) toCopy) (λ e. copy-owned (eqb-true _ _ e))
       (λ _. picked Q (eqb (s .directory .stage) toSwap) (λ _. swap-owned)
-      (λ _. picked Q (eqb (s .directory .stage) toRelease) (λ e. release-owned (eqb-true _ _ e)) (λ _. own))))
+      (λ _. picked Q (eqb (s .directory .stage) toIndex) (λ _. own)
+      (λ _. picked Q (eqb (s .directory .stage) toRelease) (λ e. release-owned (eqb-true _ _ e)) (λ _. own)))))
     where
       Q : (Sizes → Tables → Outcome) → Type 0
       Q f = OwnedBy z (f z s .tables)

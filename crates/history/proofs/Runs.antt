@@ -31,8 +31,7 @@ use Rattle.facts.specs.Reached.{Reached}
 use Rattle.statements.specs.Runs.{mapThen, tablesAt, mapAt, taskAt, Working}
 use Rattle.simulation.specs.Beside.{Beside}
 use Rattle.facts.proofs.Fresh.{getD-all}
-use Rattle.facts.proofs.Applying.{Applied, applied-by}
-use Rattle.facts.proofs.Ends.{decides-fine}
+use Rattle.facts.proofs.Tasks.{step-applied}
 use Rattle.facts.proofs.Reaching.{reached-kept, run-reached}
 use Rattle.holds.proofs.Shaped.{calls-does}
 use Rattle.handles.proofs.Handing.{rebalance-tasks, begin-tasks}
@@ -74,9 +73,6 @@ module _ (z : Sizes) (lim : Limited z) (s : Tables) (r : Reached z s) where
   -- a row after another, or itself, was written
   put-row : (n : ℕ) (t : Task) → n < z .tasks → getD (set (s .tasks) n t) n idleTask ≡ t
   put-row n t b = getD-set-same (s .tasks) n t idleTask (rw (kept .tasks-sized) b)
-
-  step-applied : (n : ℕ) → Applied z (Stages.putOwn z s n (Stages.decide z s n (task s n) .task)) (Stages.apply z (Stages.putOwn z s n (Stages.decide z s n (task s n) .task)) (Stages.decide z s n (task s n) .write))
-  step-applied n = applied-by z lim (Stages.putOwn z s n (Stages.decide z s n (task s n) .task)) (kept .tables) (Stages.decide z s n (task s n) .write) (decides-fine z lim s (kept .tables) (task s n) (kept .tasks n) n .allowed)
 
   module _ (n : ℕ) where
     -- the same for what the call does, and then of the call
@@ -140,10 +136,10 @@ module _ (z : Sizes) (lim : Limited z) (s : Tables) (r : Reached z s) where
         o = record { tables = Stages.apply z (Stages.putOwn z s m (x .task)) (x .write); report = x .report }
 
         other : n ≢ m → T o
-        other ne = still (step m) o (ap (λ (ts : List Task). getD ts n idleTask) (step-applied m .tasks) ∙ getD-set-other (s .tasks) m n (x .task) idleTask ne) (ap (λ (ss : List (List EntryNo)). getD ss n []) (step-applied m .stacks) ∙ getD-set-other (s .stacks) m n (Stages.stackThen z s (task s m) m) [] ne) (λ e. absurd (ne (sym (step-task e)))) started-not
+        other ne = still (step m) o (ap (λ (ts : List Task). getD ts n idleTask) (step-applied z lim s kept m .tasks) ∙ getD-set-other (s .tasks) m n (x .task) idleTask ne) (ap (λ (ss : List (List EntryNo)). getD ss n []) (step-applied z lim s kept m .stacks) ∙ getD-set-other (s .stacks) m n (Stages.stackThen z s (task s m) m) [] ne) (λ e. absurd (ne (sym (step-task e)))) started-not
 
         own : n ≡ m → m < z .tasks → task s m .stage ≢ 0 → T o
-        own e b busy q = Turn.steps (record { call = ap step (sym e); numbered = rw e b; busy = rw e busy; done = rw e q; row = ap (λ (x : Outcome). task (x .tables) n) q ∙ rw e (ap (λ (ts : List Task). getD ts m idleTask) (step-applied m .tasks) ∙ put-row m (x .task) b); stack = ap (λ (x : Outcome). stack (x .tables) n) q ∙ rw e (ap (λ (ss : List (List EntryNo)). getD ss m []) (step-applied m .stacks) ∙ getD-set-same (s .stacks) m (Stages.stackThen z s (task s m) m) [] (rw (kept .stacks-sized) b)) })
+        own e b busy q = Turn.steps (record { call = ap step (sym e); numbered = rw e b; busy = rw e busy; done = rw e q; row = ap (λ (x : Outcome). task (x .tables) n) q ∙ rw e (ap (λ (ts : List Task). getD ts m idleTask) (step-applied z lim s kept m .tasks) ∙ put-row m (x .task) b); stack = ap (λ (x : Outcome). stack (x .tables) n) q ∙ rw e (ap (λ (ss : List (List EntryNo)). getD ss m []) (step-applied z lim s kept m .stacks) ∙ getD-set-same (s .stacks) m (Stages.stackThen z s (task s m) m) [] (rw (kept .stacks-sized) b)) })
 
     does-turn : (c : Call) → TurnBy c (does z s c)
     unfolding does

@@ -1,5 +1,5 @@
 -- What the held chunk and the held handle show of a key, and what a call leaves of it.
-use Prim.Native.Nat.{ℕ, _+_, _/_, _<_}
+use Prim.Native.Nat.{ℕ, _<_}
 use mathlib.Core.Path.{_≡_, refl, sym, ap, _∙_, subst}
 use mathlib.Core.Logic.{_⊎_, inl, inr, ⊎-elim, ⊎-map, _≢_}
 use mathlib.Core.Bool.{true, false≢true}
@@ -8,25 +8,23 @@ use mathlib.Core.Option.{Option, none, some, Option·none-ne-some}
 use native.Mathlib.Decide.{ℕ-discrete, decLt}
 use native.Mathlib.Omega.{arith}
 use lib.Dec.{eqb, ltb, leb}
-use lib.ListN.{length, getD, set, take, drop, List·getD-eq-default}
-use borrow.Author.Tests.{ne-eqb, eqb-true, ltb-true}
+use lib.ListN.{getD, set, List·getD-eq-default}
+use borrow.Author.Tests.{lt-leb, eqb-true, ltb-true}
 use Rattle.rules.specs.declared.Sizes.{Sizes}
 use Rattle.rules.specs.declared.Directory.{Directory}
 use Rattle.rules.specs.declared.Task.{Task}
-use Rattle.rules.specs.declared.Entry.{Entry}
 use Rattle.rules.specs.declared.ChunkNo.{ChunkNo}
 use Rattle.rules.specs.declared.EntryNo.{EntryNo}
-use Rattle.rules.specs.Words.{pick, noChunk, _and_, _or_, live, retired, usesFunction, scanDown, isScan, idle, toDrain, toCopy, toSwap, toRelease}
-use Rattle.rules.specs.Tables.{Tables, emptyChunk, withTasks, withDirectory, withEntries, chunkAt, chunk, putChunk, entryAt, entry, value, mark, task}
+use Rattle.rules.specs.Words.{pick, _and_, _or_, live, retired, scanDown, idle, toDrain, toCopy, toSwap, toIndex, toRelease}
+use Rattle.rules.specs.Tables.{Tables, emptyChunk, withDirectory, chunkAt, chunk, putChunk, entryAt, entry, value, mark, task}
 use Rattle.rules.specs.Walks.{linked, InRange}
 use Rattle.rules.specs.Stages
-use Rattle.rules.specs.Rebalance.{Outcome, unusedCount, unusedFrom, publishedOn, heldChunk, namingFrom, at, clears, copies, releases, rebalanceDoes}
-use Rattle.rules.specs.Calls.{Call, starts, steps, does, calls}
+use Rattle.rules.specs.Rebalance.{Outcome, unusedCount, publishedOn, heldChunk, clears, copies, releases, rebalanceDoes, atRest}
+use Rattle.rules.specs.Calls.{Call, steps, does, calls}
 use Rattle.rules.specs.Calls.Call.{start, step, begin, rebalance}
 use Rattle.rules.specs.Shape.{fitsOperation}
 use Rattle.laws.proofs.Tests.{picked, or-cases}
-use Rattle.views.specs.Copies.{filled}
-use Rattle.views.proofs.Copies.{fill-is, clears-is}
+use Rattle.views.proofs.Copies.{clears-is}
 use Rattle.views.proofs.Entries.{links-one}
 use Rattle.statements.specs.Sound.{Limited, Live}
 use Rattle.facts.specs.Facts.{Roles, Holds, holdAt, ChunkOfKey, Kept}
@@ -34,7 +32,8 @@ use Rattle.facts.specs.Reached.{Reached}
 use Rattle.facts.proofs.Numbers.{holding}
 use Rattle.facts.proofs.Covering.{only}
 use Rattle.facts.proofs.SwapIn.{swap-by}
-use Rattle.facts.proofs.Making.{newRow}
+use Rattle.facts.proofs.Copying.{copy-by}
+use Rattle.facts.proofs.Tasks.{start-by}
 use Rattle.facts.proofs.Reaching.{reached-kept}
 use Rattle.holds.proofs.Shaped.{calls-does}
 use Rattle.handles.proofs.Handing.{rebalance-tasks, begin-tasks}
@@ -103,34 +102,23 @@ module _ (z : Sizes) (lim : Limited z) (s : Tables) (r : Reached z s) where
         (λ i. ⊎-elim (λ e. stands 13 e (omega arith) .old) (λ j. ⊎-elim (λ e. stands 14 e (omega arith) .old) (λ e. stands 15 e (omega arith) .old) (or-cases _ _ j)) (or-cases _ _ i)) (or-cases _ _ q)
         )
 
--- only while a release is to come is a chunk retired
-none-retired : (z : Sizes) (s : Tables) → Kept z s → s .directory .stage ≢ toRelease → (c : ChunkNo) → c .0 < z .chunks → chunk s c .status ≢ retired
+-- only between swap in and release is a chunk retired
+none-retired : (z : Sizes) (s : Tables) → Kept z s → s .directory .stage < toIndex → (c : ChunkNo) → c .0 < z .chunks → chunk s c .status ≢ retired
 none-retired z s kept early c b = elim (ℕ-discrete (s .directory .old .0) (c .0)) [ yes e ↦ is-old (w .old e .1) | no n1 ↦ elim (ℕ-discrete (s .directory .new .0) (c .0)) [ yes e ↦ is-new (w .new n1 (inl e) .1) | no n2 ↦ elim (ℕ-discrete (s .directory .second .0) (c .0)) [ yes e ↦ is-new (w .new n1 (inr e) .1) | no n3 ↦ ⊎-elim (λ e q. omega (arith, e, q)) (λ e q. omega (arith, e, q)) (w .other n1 n2 n3 .1) ] ] ]
   where
     w : Roles (s .directory) (c .0) (chunk s c)
     w = kept .tables .rebalancing .roles c b
 
-    is-old : chunk s c .status ≡ pick (eqb (s .directory .stage) toRelease) retired live → chunk s c .status ≢ retired
-    is-old e q = omega (arith, q, rw (ne-eqb _ _ early) at e)
+    is-old : chunk s c .status ≡ pick (leb toIndex (s .directory .stage)) retired live → chunk s c .status ≢ retired
+    is-old e q = omega (arith, q, rw (lt-leb toIndex (s .directory .stage) early) at e)
 
-    is-new : chunk s c .status ≡ pick (eqb (s .directory .stage) toRelease) live 2 → chunk s c .status ≢ retired
-    is-new e q = omega (arith, q, rw (ne-eqb _ _ early) at e)
+    is-new : chunk s c .status ≡ pick (leb toIndex (s .directory .stage)) live 2 → chunk s c .status ≢ retired
+    is-new e q = omega (arith, q, rw (lt-leb toIndex (s .directory .stage) early) at e)
 
 -- ---- over a call
 module _ (z : Sizes) (lim : Limited z) (s : Tables) (r : Reached z s) where
   abbrev k₀ : Kept z s
   k₀ = reached-kept z lim r
-
-  -- what holds of the tables, whatever row of a task is put there, holds after a start
-  start-by : (P : Tables → Type 0) → P s → ((ts : List Task) → P (withTasks s ts)) → (n op k a f : ℕ) → P (starts z s n op k a f .tables)
-  start-by P same put n op k a f =
-      picked O (leb (z .tasks) n) (λ _. same)
-      (λ _. picked O (eqb (task s n .stage) 0)
-      (λ _. picked O (ltb op 1 or ltb 8 op or (usesFunction op and (ltb f 1 or ltb 3 f))) (λ _. same) (λ _. picked O (isScan op and ltb a k) (λ _. same) (λ _. put _)))
-      (λ _. same))
-    where
-      O : Outcome → Type 0
-      O o = P (o .tables)
 
   -- what holds of the tables, and where the task's stage is done, holds after a step
   step-by : (P : Tables → Type 0) → P s → (n : ℕ) → P (s′ z lim s k₀ n) → P (steps z s n .tables)
@@ -143,7 +131,7 @@ module _ (z : Sizes) (lim : Limited z) (s : Tables) (r : Reached z s) where
 
     does-live : (c : Call) → LiveIn (does z s c .tables)
     unfolding does
-    does-live (start n op k a f) = start-by LiveIn v (λ _. v) n op k a f
+    does-live (start n op k a f) = start-by z s LiveIn v (λ _. v) n op k a f
     does-live (step n) = step-by LiveIn v n (live-on z lim s k₀ n (reached-marked z lim r) h k i m v)
     does-live (begin j) = begin-moves z lim s k₀ (reached-owned z lim r) (reached-held z lim r) (reached-unlinked z lim r) (reached-copied z lim r) j .0 .to h k i v
     does-live rebalance = rebalance-moves z lim s k₀ (reached-owned z lim r) (reached-held z lim r) (reached-unlinked z lim r) (reached-copied z lim r) .0 .to h k i v
@@ -158,7 +146,7 @@ module _ (z : Sizes) (lim : Limited z) (s : Tables) (r : Reached z s) where
 
     does-value : (c : Call) → ValueIn (does z s c .tables)
     unfolding does
-    does-value (start m op k a f) = start-by ValueIn refl (λ _. refl) m op k a f
+    does-value (start m op k a f) = start-by z s ValueIn refl (λ _. refl) m op k a f
     does-value (step m) = step-by ValueIn refl m (deleted-same z lim s k₀ (set (s .tasks) m (Stages.decide z s m (task s m) .task)) _ m (reached-owned z lim r) (acts z lim s k₀ m) n d)
     does-value (begin k) = ap (λ (l : List ℕ). getD l (task s n .old .0) 0) (begin-tasks z s k .1)
     does-value rebalance = ap (λ (l : List ℕ). getD l (task s n .old .0) 0) (rebalance-tasks z s .1)
@@ -184,46 +172,29 @@ module _ (z : Sizes) (lim : Limited z) (s : Tables) (r : Reached z s) where
         rows q e j = frame z lim s k₀ (set (s .tasks) n (Stages.decide z s n (task s n) .task)) _ n (acts z lim s k₀ n) (allowed z lim s k₀ n) f e (record { chunk = b; entry = j }) (not-there q)
 
     -- no copy and no release leaves one
-    early : (x : Tables) (m : ℕ) → x .directory .stage ≡ m → m ≢ toRelease → {A : Type 0} → Kept z x → chunkAt (x .chunks) f .status ≡ retired → A
-    early x m e ne kept q = absurd (none-retired z x kept (λ p. ne (sym e ∙ p)) f b q)
-
-    copy-stage : copies z s .tables .directory .stage ≡ toSwap
-    copy-stage = picked (λ (o : Outcome). o .tables .directory .stage ≡ toSwap) (leb (length l) (z .entries / 2)) (λ _. rw (fill-is z a (withDirectory s (at z s toSwap a noChunk)) 0 l) refl) (λ _. rw (fill-is z a (withDirectory s (at z s toSwap a b₂)) 0 (take half l), fill-is z b₂ (putChunk (withEntries (withDirectory s (at z s toSwap a b₂)) (filled z a 0 (take half l) (s .entries))) a (newRow (chunk s old .min) (take half l))) 0 (drop half l)) refl)
-      where
-        old : ChunkNo
-        old = s .directory .old
-
-        l : List Entry
-        l = namingFrom z (s .entries) old (z .entries) (chunk s old .head)
-
-        half : ℕ
-        half = (length l + 1) / 2
-
-        a : ChunkNo
-        a = unusedFrom (s .chunks) 0
-
-        b₂ : ChunkNo
-        b₂ = unusedFrom (drop (a .0 + 1) (s .chunks)) (a .0 + 1)
+    early : (x : Tables) (m : ℕ) → x .directory .stage ≡ m → m < toIndex → {A : Type 0} → Kept z x → chunkAt (x .chunks) f .status ≡ retired → A
+    early x m e before kept q = absurd (none-retired z x kept (rw e before) f b q)
 
     release-stays : Stays (releases z s .tables)
     release-stays = picked StaysBy (heldChunk (s .tasks) (s .directory .old)) (λ _ _ _. v) (λ _. early x idle (rw (clears-is z (s .directory .old) s (z .entries) (withDirectory s to)) refl) (omega arith))
       where
         to : Directory
-        to = record { first = s .directory .first; stage = idle; old = noChunk; new = noChunk; second = noChunk }
+        to = atRest (s .directory)
 
         x : Tables
         x = putChunk (clears z s (z .entries) (withDirectory s to) (s .directory .old)) (s .directory .old) emptyChunk
 
     does-stays : (c : Call) → Stays (does z s c .tables)
     unfolding does rebalanceDoes
-    does-stays (start n op k a g) = start-by Stays (λ _ _. v) (λ _ _ _. v) n op k a g
+    does-stays (start n op k a g) = start-by z s Stays (λ _ _. v) (λ _ _ _. v) n op k a g
     does-stays (step n) = step-stays n
     does-stays (begin j) = picked StaysBy (eqb (s .directory .stage) idle) (λ _. picked StaysBy (ltb (unusedCount (s .chunks)) 2) (λ _ _ _. v) (λ _ _ _. v)) (λ _ _ _. v)
     does-stays rebalance =
         picked Q (eqb (s .directory .stage) toDrain) (λ _. picked StaysBy (publishedOn (s .tasks) (s .directory .old)) (λ _ _ _. v) (λ _ _ _. v))
-        (λ _. picked Q (eqb (s .directory .stage) toCopy) (λ _. early (copies z s .tables) toSwap copy-stage (omega arith))
+        (λ _. picked Q (eqb (s .directory .stage) toCopy) (λ _. early (copies z s .tables) toSwap (copy-by z s (λ x. x .directory .stage ≡ toSwap) (λ c cs es _. refl)) (omega arith))
         (λ _. picked Q (eqb (s .directory .stage) toSwap) (λ _ _ _. swap-by z s (λ x. NamedIn z (x .entries) f h k) v (λ x e. e) (λ x e. e) (λ x e. e) (λ x e. e) (λ x d e. e))
-        (λ _. picked Q (eqb (s .directory .stage) toRelease) (λ _. release-stays) (λ _ _ _. v))))
+        (λ _. picked Q (eqb (s .directory .stage) toIndex) (λ _ _ _. v)
+        (λ _. picked Q (eqb (s .directory .stage) toRelease) (λ _. release-stays) (λ _ _ _. v)))))
       where
         Q : (Sizes → Tables → Outcome) → Type 0
         Q g = StaysBy (g z s)

@@ -1,5 +1,5 @@
 -- Every call keeps publishers on live chunks, and off the old one once it is drained.
-use Prim.Native.Nat.{ℕ, zero, suc, _+_, _/_, _≤_, _<_}
+use Prim.Native.Nat.{ℕ, zero, suc, _≤_, _<_}
 use mathlib.Core.Path.{_≡_, refl, sym, ap, _∙_}
 use mathlib.Core.Logic.{_⊎_, inl, inr, ⊎-elim, _≢_}
 use mathlib.Core.Bool.{Bool, true, false, false≢true}
@@ -7,26 +7,24 @@ use mathlib.Core.List.{List, [], _∷_}
 use native.Mathlib.Decide.{ℕ-discrete}
 use native.Mathlib.Omega.{arith}
 use lib.Dec.{eqb, ltb, leb}
-use lib.ListN.{length, getD, set, take, drop}
+use lib.ListN.{getD, set}
 use borrow.Author.Tests.{leb-false, eqb-true, eq-eqb}
 use Rattle.rules.specs.declared.Sizes.{Sizes}
 use Rattle.rules.specs.declared.Directory.{Directory}
 use Rattle.rules.specs.declared.Task.{Task}
 use Rattle.rules.specs.declared.Chunk.{Chunk}
-use Rattle.rules.specs.declared.Entry.{Entry}
 use Rattle.rules.specs.declared.ChunkNo.{ChunkNo}
 use Rattle.rules.specs.declared.Decision.{Decision}
-use Rattle.rules.specs.Words.{_and_, _or_, chunkNo, noChunk, unused, live, new, retired, usesFunction, isScan, idle, toDrain, toCopy, toSwap, toRelease}
-use Rattle.rules.specs.Tables.{Tables, idleTask, emptyChunk, emptyEntry, chunkAt, chunk, task, putTask, withDirectory, withChunks, withEntries}
+use Rattle.rules.specs.Words.{_and_, _or_, chunkNo, unused, live, new, retired, usesFunction, isScan, idle, toDrain, toCopy, toSwap, toIndex, toRelease}
+use Rattle.rules.specs.Tables.{Tables, idleTask, emptyChunk, chunkAt, chunk, task, putTask, withDirectory}
 use Rattle.rules.specs.Walks.{locate}
 use Rattle.rules.specs.Stages
-use Rattle.rules.specs.Rebalance.{Outcome, unusedCount, unusedFrom, publishedOn, heldChunk, namingFrom, frozenOf, at, begins, drains, copies, swapsIn, releases, rebalanceDoes, withNextChunk}
+use Rattle.rules.specs.Rebalance.{Outcome, unusedCount, publishedOn, heldChunk, frozenOf, at, begins, drains, copies, swapsIn, indexes, releases, rebalanceDoes, withNextChunk, atRest}
 use Rattle.rules.specs.Calls.{Call, fresh, started, starts, steps, does}
 use Rattle.rules.specs.Calls.Call.{start, step, begin, rebalance}
 use Rattle.laws.proofs.Tests.{picked}
-use Rattle.views.specs.Copies.{filled}
 use Rattle.views.proofs.Rows.{chunk-either}
-use Rattle.views.proofs.Copies.{fill-is, clears-is}
+use Rattle.views.proofs.Copies.{clears-is}
 use Rattle.statements.specs.Sound.{Limited}
 use Rattle.facts.specs.Facts.{Roles, Rebalancing, Kept}
 use Rattle.facts.specs.Reached.{Reached}
@@ -36,7 +34,7 @@ use Rattle.facts.proofs.Fresh.{getD-all}
 use Rattle.facts.specs.Swapped.{beforeOld}
 use Rattle.facts.proofs.SwapIn.{swap-by}
 use Rattle.facts.proofs.Copying
-use Rattle.facts.proofs.Making.{newRow}
+use Rattle.facts.proofs.Copying.{copy-by}
 use Rattle.facts.proofs.Reaching.{call-by, reached-kept}
 use Rattle.handles.proofs.Owning.{put-tasks}
 use Rattle.handles.proofs.Handing.{swap-tasks}
@@ -78,7 +76,7 @@ module _ (z : Sizes) (lim : Limited z) (s : Tables) (kept : Kept z s) (held : He
       old-ne e = not-old (sym (ap chunkNo e))
 
       of-new : (s .directory .new .0 ≡ c .0) ⊎ (s .directory .second .0 ≡ c .0) → chunk s c .status ≢ retired
-      of-new o e = picked (λ (n : ℕ). n ≡ retired → ⊥) (eqb (s .directory .stage) toRelease) (λ _ w. omega arith) (λ _ w. omega arith) (sym (r .new old-ne o .1) ∙ e)
+      of-new o e = picked (λ (n : ℕ). n ≡ retired → ⊥) (leb toIndex (s .directory .stage)) (λ _ w. omega arith) (λ _ w. omega arith) (sym (r .new old-ne o .1) ∙ e)
 
       by-role : chunk s c .status ≢ retired
       by-role e = elim (ℕ-discrete (s .directory .new .0) (c .0)) [ yes i ↦ of-new (inl i) e | no n1 ↦ elim (ℕ-discrete (s .directory .second .0) (c .0)) [ yes i ↦ of-new (inr i) e | no n2 ↦ ⊎-elim (λ (w : chunk s c .status ≡ unused). three (sym w ∙ e)) (λ (w : chunk s c .status ≡ live). one (sym w ∙ e)) (r .other old-ne n1 n2 .1) ] ]
@@ -167,43 +165,10 @@ module _ (z : Sizes) (lim : Limited z) (s : Tables) (kept : Kept z s) (held : He
       (λ none. left _ refl (λ t p w n e. record { numbered = p .numbered; isLive = p .isLive; drains = λ _ i. none-published (s .tasks) (s .directory .old) n none (ap (λ (t : Task). t .published) e ∙ w) (ap (λ (t : Task). t .chunk) e ∙ i) }))
 
   copy-held : s .directory .stage ≡ toCopy → Held z (copies z s .tables)
-  copy-held stage =
-      picked (λ (o : Outcome). Held z (o .tables)) (leb (length l) (z .entries / 2))
-      (λ _. rw (fill-is z a (withDirectory s (at z s toSwap a noChunk)) 0 l) (left _ refl (λ t p _ n _. record { numbered = p .numbered; isLive = first l t p; drains = λ _. p .drains drained })))
-      (λ _. rw (fill-is z a (withDirectory s (at z s toSwap a b)) 0 l₁, fill-is z b (withChunks (withEntries (withDirectory s (at z s toSwap a b)) (filled z a 0 l₁ (s .entries))) (set (s .chunks) (a .0) (newRow (chunk s old .min) l₁))) 0 l₂) (left _ refl (λ t p _ n _. record { numbered = p .numbered; isLive = live-put (set (s .chunks) (a .0) (newRow (chunk s old .min) l₁)) b (newRow (getD l half emptyEntry .key) l₂) (t .chunk) (λ e. absurd (unlike (t .chunk) b (p .isLive) (Copying.b-free z lim s kept stage .1) e)) (first l₁ t p); drains = λ _. p .drains drained })))
+  copy-held stage = copy-by z s (Held z) (λ c cs es same. left _ refl (λ t p _ n _. record { numbered = p .numbered; isLive = ap (λ (y : Chunk). y .status) (same (t .chunk) (unlike p (Copying.a-free z lim s kept stage .1)) (unlike p (Copying.b-free z lim s kept stage .1))) ∙ p .isLive; drains = λ _. p .drains (omega arith) }))
     where
-      old : ChunkNo
-      old = s .directory .old
-
-      l : List Entry
-      l = namingFrom z (s .entries) old (z .entries) (chunk s old .head)
-
-      half : ℕ
-      half = (length l + 1) / 2
-
-      l₁ : List Entry
-      l₁ = take half l
-
-      l₂ : List Entry
-      l₂ = drop half l
-
-      a : ChunkNo
-      a = unusedFrom (s .chunks) 0
-
-      b : ChunkNo
-      b = unusedFrom (drop (a .0 + 1) (s .chunks)) (a .0 + 1)
-
-      drained : toCopy ≤ s .directory .stage
-      drained = omega arith
-
-      unlike : (c d : ChunkNo) → chunk s c .status ≡ live → chunk s d .status ≡ unused → c ≢ d
-      unlike c d x y e = never (sym x ∙ ap (λ (c : ChunkNo). chunk s c .status) e ∙ y)
-        where
-          never : _≡_ {A = ℕ} 1 0 → ⊥
-          never w = omega arith
-
-      first : (r : List Entry) (t : Task) → PublisherLive z (s .directory) (s .chunks) t → chunkAt (set (s .chunks) (a .0) (newRow (chunk s old .min) r)) (t .chunk) .status ≡ live
-      first r t p = live-put (s .chunks) a (newRow (chunk s old .min) r) (t .chunk) (λ e. absurd (unlike (t .chunk) a (p .isLive) (Copying.a-free z lim s kept stage .1) e)) (p .isLive)
+      unlike : {t : Task} {d : ChunkNo} → PublisherLive z (s .directory) (s .chunks) t → chunk s d .status ≡ unused → t .chunk ≢ d
+      unlike p y e = omega (arith, p .isLive, y, ap (λ (c : ChunkNo). chunk s c .status) e)
 
   release-held : s .directory .stage ≡ toRelease → Held z (releases z s .tables)
   release-held stage =
@@ -211,13 +176,16 @@ module _ (z : Sizes) (lim : Limited z) (s : Tables) (kept : Kept z s) (held : He
       (λ _. rw (clears-is z (s .directory .old) s (z .entries) (withDirectory s to)) (left _ refl (λ t p _ n _. record { numbered = p .numbered; isLive = live-put (s .chunks) (s .directory .old) emptyChunk (t .chunk) (λ e. absurd (p .drains drained e)) (p .isLive); drains = λ le. absurd (early le) })))
     where
       to : Directory
-      to = record { first = s .directory .first; stage = idle; old = noChunk; new = noChunk; second = noChunk }
+      to = atRest (s .directory)
 
       drained : toCopy ≤ s .directory .stage
       drained = omega arith
 
       early : 2 ≤ 0 → ⊥
       early le = omega arith
+
+  index-held : s .directory .stage ≡ toIndex → Held z (indexes z s .tables)
+  index-held stage = left (indexes z s .tables) refl (λ t p _ n _. record { numbered = p .numbered; isLive = p .isLive; drains = λ _. p .drains (omega arith) })
 
   -- a live chunk that is not the old one stays live at swap in
   pub swap-live : (c : ChunkNo) → chunk s c .status ≡ live → c ≢ s .directory .old → chunkAt (swapsIn z s .tables .chunks) c .status ≡ live
@@ -240,7 +208,8 @@ module _ (z : Sizes) (lim : Limited z) (s : Tables) (kept : Kept z s) (held : He
       picked Q (eqb (s .directory .stage) toDrain) (λ _. drain-held)
       (λ _. picked Q (eqb (s .directory .stage) toCopy) (λ e. copy-held (eqb-true _ _ e))
       (λ _. picked Q (eqb (s .directory .stage) toSwap) (λ e. swap-held (eqb-true _ _ e))
-      (λ _. picked Q (eqb (s .directory .stage) toRelease) (λ e. release-held (eqb-true _ _ e)) (λ _. held))))
+      (λ _. picked Q (eqb (s .directory .stage) toIndex) (λ e. index-held (eqb-true _ _ e))
+      (λ _. picked Q (eqb (s .directory .stage) toRelease) (λ e. release-held (eqb-true _ _ e)) (λ _. held)))))
     where
       Q : (Sizes → Tables → Outcome) → Type 0
       Q f = Held z (f z s .tables)

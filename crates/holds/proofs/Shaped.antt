@@ -14,6 +14,7 @@ use Rattle.facts.specs.Facts.{MarksHeld, holdAt}
 use Rattle.facts.specs.Reached.{Reached}
 use Rattle.facts.proofs.Shapes.{has-shape}
 use Rattle.facts.proofs.Reaching.{reached-kept}
+use Rattle.facts.proofs.Indexes.{reached-indexed}
 use Rattle.facts.proofs.Reports.{not-ten, does-ok}
 use Rattle.holds.specs.Marked.{Marked}
 use Rattle.holds.proofs.Marks.{reached-marked}
@@ -27,7 +28,7 @@ marks-held z s m n is = m .old-deleted n (not-deleted (task s n .stage) 4 refl i
 
 module _ (z : Sizes) (lim : Limited z) (s : Tables) (r : Reached z s) where
   pub reached-shaped : shape z s ≡ true
-  reached-shaped = has-shape z lim s (reached-kept z lim r) (marks-held z s (reached-marked z lim r))
+  reached-shaped = has-shape z lim s (reached-kept z lim r) (marks-held z s (reached-marked z lim r)) (reached-indexed z lim r)
 
   -- a call on reached tables is done, and not refused by 10
   pub calls-does : (c : Call) → calls z s c ≡ does z s c

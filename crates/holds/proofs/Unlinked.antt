@@ -22,11 +22,11 @@ use Rattle.rules.specs.declared.EntryNo.{EntryNo}
 use Rattle.rules.specs.declared.Decision.{Decision}
 use Rattle.rules.specs.declared.Write.{Write}
 use Rattle.rules.specs.declared.Write.the-variants as write
-use Rattle.rules.specs.Words.{_and_, _or_, NONE, entryNo, noChunk, noHandle, noEntry, unused, usesFunction, isScan, idle, toDrain, toCopy, toSwap, toRelease}
+use Rattle.rules.specs.Words.{_and_, _or_, NONE, entryNo, noChunk, noHandle, noEntry, unused, usesFunction, isScan, idle, toDrain, toCopy, toSwap, toIndex, toRelease}
 use Rattle.rules.specs.Tables.{Tables, emptyChunk, emptyEntry, chunkAt, chunk, entryAt, entry, row, task, putChunk, withOwn, withDirectory, withChunks, withEntries}
 use Rattle.rules.specs.Walks.{locate, linked, listFrom}
 use Rattle.rules.specs.Stages
-use Rattle.rules.specs.Rebalance.{Outcome, unusedCount, unusedFrom, publishedOn, heldChunk, namingFrom, frozenOf, makes, at, begins, copies, swapsIn, releases, rebalanceDoes}
+use Rattle.rules.specs.Rebalance.{Outcome, unusedCount, unusedFrom, publishedOn, heldChunk, namingFrom, frozenOf, makes, at, begins, copies, swapsIn, releases, rebalanceDoes, atRest}
 use Rattle.rules.specs.Calls.{Call, fresh, started, starts, steps, does}
 use Rattle.rules.specs.Calls.Call.{start, step, begin, rebalance}
 use Rattle.laws.proofs.Tests.{picked, by-test}
@@ -232,7 +232,7 @@ module _ (z : Sizes) (lim : Limited z) (s : Tables) (kept : Kept z s) (un : Unli
       old = s .directory .old
 
       to : Directory
-      to = record { first = s .directory .first; stage = idle; old = noChunk; new = noChunk; second = noChunk }
+      to = atRest (s .directory)
 
       old-in : old .0 < z .chunks
       old-in = kept .tables .rebalancing .old (omega arith)
@@ -261,7 +261,8 @@ module _ (z : Sizes) (lim : Limited z) (s : Tables) (kept : Kept z s) (un : Unli
       picked Q (eqb (s .directory .stage) toDrain) (λ _. picked (λ (o : Outcome). UnlinkedIn (o .tables)) (publishedOn (s .tasks) (s .directory .old)) (λ _. un) (λ _. un))
       (λ _. picked Q (eqb (s .directory .stage) toCopy) (λ e. copy-unlinked (eqb-true _ _ e))
       (λ _. picked Q (eqb (s .directory .stage) toSwap) (λ _. swap-unlinked)
-      (λ _. picked Q (eqb (s .directory .stage) toRelease) (λ e. release-unlinked (eqb-true _ _ e)) (λ _. un))))
+      (λ _. picked Q (eqb (s .directory .stage) toIndex) (λ _. un)
+      (λ _. picked Q (eqb (s .directory .stage) toRelease) (λ e. release-unlinked (eqb-true _ _ e)) (λ _. un)))))
     where
       Q : (Sizes → Tables → Outcome) → Type 0
       Q f = UnlinkedIn (f z s .tables)

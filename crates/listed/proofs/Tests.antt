@@ -31,6 +31,9 @@ and-right false b h = absurd (false≢true h)
 pub and-both : (a b : Bool) → a && b ≡ true → (a ≡ true) × (b ≡ true)
 and-both a b h = let h′ : pick a b false ≡ true = sym (and-is a b) ∙ h in (and-left a b h′, and-right a b h′)
 
+pub and-gives : (a b t : Bool) → a && b ≡ t → pick a b false ≡ t
+and-gives a b t h = sym (and-is a b) ∙ h
+
 -- what a test by `|` gave
 pub or-gives : (a b t : Bool) → a || b ≡ t → pick a true b ≡ t
 or-gives a b t h = sym (or-is a b) ∙ h

@@ -31,7 +31,7 @@ bare z = kept z [] []
 
 -- of which the directory's row and the chunks are asked
 abbrev pub headed : Sizes → Directory → List ℕ → Tables
-headed z d cs = record { directory = d; tasks = []; chunks = chunkRows (z .chunks) cs; entries = []; values = []; marks = []; stacks = [] }
+headed z d cs = record { directory = d; tasks = []; chunks = chunkRows (z .chunks) cs; entries = []; values = []; marks = []; stacks = []; index = [] }
 
 -- a chunk's own row
 abbrev pub rowRight : Sizes → Chunk → Bool

@@ -181,7 +181,7 @@ fn is_plain(z: Sizes, entries: &[u64], c: ChunkNo, used: u64, head: EntryNo) -> 
 }
 
 // The key may follow: at the start any may, and then one above the last.
-fn follows(start: bool, last: u64, key: u64) -> bool
+pub fn follows(start: bool, last: u64, key: u64) -> bool
     ensures { λ r. ⌜ r ≡ leb (least start last) key ⌝ }
 {
     start | (last < key)

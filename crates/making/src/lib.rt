@@ -1,6 +1,7 @@
 // The fresh directory, made over whatever the tables held.
 use rules::ChunkNo;
 use rules::Directory;
+use rules::IndexRow;
 use rules::NONE;
 use rules::Sizes;
 ghost use mathlib.Core.Path.{_≡_};
@@ -9,9 +10,9 @@ ghost use Prim.Native.Nat.{_+_, _*_, _-_, _≤_};
 ghost use lib.ListN.{length, take, replicate};
 ghost use Rattle.rules.specs.declared.Sizes.{Sizes};
 ghost use Rattle.rules.specs.Tables.{idleTask, emptyChunk, emptyEntry, emptyStack};
-ghost use Rattle.rules.specs.Calls.{fresh};
+ghost use Rattle.rules.specs.Calls.{freshDirectory, fresh};
 ghost use Rattle.making.specs.Clearing.{everyOther};
-ghost use Rattle.rows.specs.Rows.{taskRows, chunkRows, entryRows, stackRows, asLeft, Lends};
+ghost use Rattle.rows.specs.Rows.{directoryOf, indexRows, taskRows, chunkRows, entryRows, stackRows, asLeft, Lends};
 
 // The first `n` tasks are idle; what stands past every task's row stays.
 pub fn idle_tasks(n: usize, tasks: &mut [u64])
@@ -80,6 +81,26 @@ pub fn clear_tasks(z: Sizes, tasks: &mut [u64])
     idle_tasks(z.tasks, tasks);
 }
 
+// No rebalance is under way, and the index has one row, for chunk 0; no word is read.
+pub fn clear_directory(z: Sizes, directory: &mut [u64])
+    requires { ⌜ length (now directory) ≡ 6 + z .chunks * 2 ⌝ }
+    ensures { λ _. ⌜ (directoryOf (now (directory .exit)) ≡ freshDirectory) × (indexRows (z .chunks) (now (directory .exit)) ≡ fresh z .index) ⌝ }
+{
+    rows::put_directory_row(directory, Directory::fresh());
+    indexing::empty_from(z, directory, 0);
+    if z.chunks == 0 {
+        return;
+    }
+    rows::put_index_row(
+        directory,
+        0,
+        IndexRow {
+            min: 0,
+            chunk: ChunkNo(0),
+        },
+    );
+}
+
 // Chunk 0 is live; all else is unused and idle.
 pub fn make(
     z: Sizes,
@@ -93,7 +114,7 @@ pub fn make(
     requires { ⌜ Lends z directory tasks chunks entries values marks ⌝ }
     ensures { λ _. ⌜ asLeft z directory tasks chunks entries values marks ≡ fresh z ⌝ }
 {
-    rows::put_directory_row(directory, Directory::fresh());
+    clear_directory(z, directory);
     clear_tasks(z, tasks);
     empty_chunks(z.chunks, chunks);
     let mut first = rows::empty_chunk();

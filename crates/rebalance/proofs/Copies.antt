@@ -12,14 +12,15 @@ use Rattle.rules.specs.declared.Directory.{Directory}
 use Rattle.rules.specs.declared.Chunk.{Chunk}
 use Rattle.rules.specs.declared.Entry.{Entry}
 use Rattle.rules.specs.declared.ChunkNo.{ChunkNo}
+use Rattle.rules.specs.declared.IndexRow.{IndexRow}
 use Rattle.rules.specs.declared.Report.the-variants as report
 use Rattle.rules.specs.Words.{noChunk, toSwap}
-use Rattle.rules.specs.Tables.{Tables, chunkAt, emptyEntry, withDirectory, withChunks, withEntries}
+use Rattle.rules.specs.Tables.{Tables, chunkAt, emptyEntry, withDirectory, withIndex, withChunks, withEntries}
 use Rattle.rules.specs.Rebalance.{gives, unusedFrom, namingFrom, copies}
 use Rattle.copying.specs.declared.Place.{Place}
 use Rattle.copying.specs.Copied.{filled, namingAt, Filled}
 use Rattle.copying.proofs.Laws.{fill-rows}
-use Rattle.rebalance.specs.Parts.{newOf}
+use Rattle.rebalance.specs.Parts.{atStage, newOf}
 use Rattle.rebalance.specs.Ready.{Halved}
 
 -- ---- the halves
@@ -42,14 +43,14 @@ module _ (z : Sizes) (c : ChunkNo) (p q r : Place) (min key count half : ℕ) (a
 module _ (z : Sizes) (s : Tables) (d : Directory) (read : d ≡ s .directory) (x : Chunk) (row : x ≡ chunkAt (s .chunks) (d .old))
     (n : ℕ) (counted : n ≡ length (namingFrom z (s .entries) (d .old) (z .entries) (x .head))) (a : ChunkNo) (lowest : a ≡ unusedFrom (s .chunks) 0) where
   pub copy-one : n ≤ z .entries / 2 → (es : List Entry) → es ≡ filled z (s .entries) a 0 (take n (namingFrom z (s .entries) (d .old) (z .entries) (x .head))) → (cs : List Chunk) → cs ≡ set (s .chunks) (a .0) (newOf (x .min) n)
-      → (d′ : Directory) → d′ ≡ record { first = d .first; stage = toSwap; old = d .old; new = a; second = noChunk } → gives (withEntries (withChunks (withDirectory s d′) cs) es) report.Moved ≡ copies z s
-  copy-one few es copied cs made d′ done =
+      → (d′ : Directory) → d′ ≡ atStage (s .directory) (d .first) toSwap (d .old) a noChunk → (ix : List IndexRow) → ix ≡ s .index → gives (withEntries (withChunks (withIndex (withDirectory s d′) ix) cs) es) report.Moved ≡ copies z s
+  copy-one few es copied cs made d′ done ix kept =
       let l : List Entry = namingFrom z (s .entries) (s .directory .old) (z .entries) (chunkAt (s .chunks) (s .directory .old) .head) in
-      rw (done, made, copied, lowest, counted, row, read) (rw (take-length l, le-leb (length l) (z .entries / 2) (rw (counted, row, read) at few), fill-rows))
+      rw (done, kept, made, copied, lowest, counted, row, read) (rw (take-length l, le-leb (length l) (z .entries / 2) (rw (counted, row, read) at few), fill-rows))
 
   pub copy-two : z .entries / 2 < n → (b : ChunkNo) → b ≡ unusedFrom (drop (a .0 + 1) (s .chunks)) (a .0 + 1) → (cs : List Chunk) (es : List Entry) → Halved z (s .chunks) cs (s .entries) es (d .old) (record { entry = x .head; left = z .entries }) (x .min) n a b
-      → (d′ : Directory) → d′ ≡ record { first = d .first; stage = toSwap; old = d .old; new = a; second = b } → gives (withEntries (withChunks (withDirectory s d′) cs) es) report.Moved ≡ copies z s
-  copy-two many b next cs es made d′ done =
+      → (d′ : Directory) → d′ ≡ atStage (s .directory) (d .first) toSwap (d .old) a b → (ix : List IndexRow) → ix ≡ s .index → gives (withEntries (withChunks (withIndex (withDirectory s d′) ix) cs) es) report.Moved ≡ copies z s
+  copy-two many b next cs es made d′ done ix kept =
       let l : List Entry = namingFrom z (s .entries) (s .directory .old) (z .entries) (chunkAt (s .chunks) (s .directory .old) .head) in
-      rw (done, made .chunks, made .entries, next, lowest, counted, row, read)
+      rw (done, kept, made .chunks, made .entries, next, lowest, counted, row, read)
       (rw (lt-leb (length l) (z .entries / 2) (rw (counted, row, read) at many), fill-rows, fill-rows, length-take-le ((length l + 1) / 2) l (omega arith), length-drop ((length l + 1) / 2) l))

@@ -13,6 +13,10 @@ use Rattle.rules.specs.Tables.{chunkAt, emptyEntry, row}
 use Rattle.rules.specs.Walks.{beforeFrom}
 use Rattle.rules.specs.Rebalance.{liveBefore, withNextChunk}
 
+-- the directory's row at another stage, with its first live chunk; the count of the index stays
+abbrev pub atStage : Directory → ChunkNo → ℕ → ChunkNo → ChunkNo → ChunkNo → Directory
+atStage d first n old a b = record { first = first; stage = n; old = old; new = a; second = b; indexed = d .indexed }
+
 -- a new chunk of so many entries
 abbrev pub newOf : ℕ → ℕ → Chunk
 newOf min many = record { status = new; frozen = 0; min = min; next = noChunk; head = pick (eqb many 0) noEntry (entryNo 0); used = many }

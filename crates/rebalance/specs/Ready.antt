@@ -19,7 +19,7 @@ use Rattle.rebalance.specs.Parts.{newOf}
 
 -- each table that a stage reads or writes has the words that the sizes ask
 pub record Given (z : Sizes) (d ts cs es : List ℕ) : Type 0 where
-  pub directory : length d ≡ 5
+  pub directory : length d ≡ 6 + z .chunks * 2
   pub tasks : z .tasks * 11 ≤ length ts
   pub chunks : length cs ≡ z .chunks * 6
   pub entries : length es ≡ z .chunks * z .entries * 3

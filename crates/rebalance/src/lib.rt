@@ -1,4 +1,4 @@
-// The rebalance over the lent tables: begin, then drain, copy, swap in and release, one call each (document 01, "Rebalancing").
+// The rebalance over the lent tables: begin, then drain, copy, swap in, index and release, one call each (document 01, "Rebalancing"; document 02, E3).
 use copying::Place;
 use rules::Chunk;
 use rules::ChunkNo;
@@ -14,10 +14,11 @@ ghost use lib.ListN.{length, set};
 ghost use lib.Dec.{eqb};
 ghost use Rattle.rules.specs.Words.{pick};
 ghost use Rattle.rules.specs.Rebalance.{gives, withStatus, frozenOf, liveBefore, withNextChunk, begins, drains, copies, swapsIn, releases, rebalanceDoes};
-ghost use Rattle.rows.specs.Rows.{directoryOf, chunkRows, entryRows, tables};
+ghost use Rattle.rows.specs.Rows.{directoryOf, chunkRows, entryRows, tables, DirectoryPut};
+ghost use Rattle.locating.specs.Charted.{Charted};
 ghost use Rattle.copying.specs.Copied.{Fills, Filled};
 ghost use Rattle.rebalance.specs.Ready.{Given, CanCopy, Ready, Halves, Halved};
-ghost use Rattle.rebalance.specs.Parts.{newOf, joined, placed, cleared};
+ghost use Rattle.rebalance.specs.Parts.{atStage, newOf, joined, placed, cleared};
 
 // ---- a chunk's row, written anew
 
@@ -60,7 +61,7 @@ fn with_next(x: Chunk, c: ChunkNo) -> Chunk
 
 // ---- the directory's row, written anew
 
-// The rebalance is at that stage, of an old chunk and its new ones.
+// The rebalance is at that stage, of an old chunk and its new ones; the index and its count stay.
 fn put_stage(
     directory: &mut [u64],
     first: ChunkNo,
@@ -69,9 +70,10 @@ fn put_stage(
     new: ChunkNo,
     second: ChunkNo,
 )
-    requires { ⌜ length (now directory) ≡ 5 ⌝ }
-    ensures { λ _. ⌜ directoryOf (now (directory .exit)) ≡ record { first = first; stage = stage; old = old; new = new; second = second } ⌝ }
+    requires { ⌜ 6 ≤ length (now directory) ⌝ }
+    ensures { λ _. ⌜ DirectoryPut (now (directory .entry)) (now (directory .exit)) (atStage (directoryOf (now (directory .entry))) first stage old new second) ⌝ }
 {
+    let indexed = rows::directory_row(directory).indexed;
     rows::put_directory_row(
         directory,
         Directory {
@@ -80,6 +82,7 @@ fn put_stage(
             old: old,
             new: new,
             second: second,
+            indexed: indexed,
         },
     );
 }
@@ -88,7 +91,7 @@ fn put_stage(
 
 // The live chunk that has the key is frozen, and a rebalance of it is under way.
 pub fn begin(z: Sizes, directory: &mut [u64], chunks: &mut [u64], k: u64) -> Report
-    requires { ⌜ (length (now directory) ≡ 5) × (length (now chunks) ≡ z .chunks * 6) ⌝ }
+    requires { ⌜ Charted z (now directory) (now chunks) ⌝ }
     ensures { λ r. ⌜ ((ts es vs ms : List ℕ) → gives (tables z (now (directory .exit)) ts (now (chunks .exit)) es vs ms) r ≡ begins z (tables z (now (directory .entry)) ts (now (chunks .entry)) es vs ms) k) ⌝ }
 {
     let d = rows::directory_row(directory);
@@ -99,7 +102,7 @@ pub fn begin(z: Sizes, directory: &mut [u64], chunks: &mut [u64], k: u64) -> Rep
         return Report::Refused(7);
     }
     let first = d.first;
-    let c = walks::locate(z, chunks, first, k);
+    let c = locating::locate(z, directory, chunks, k);
     let x = rows::chunk_at(z, chunks, c);
     rows::put_chunk(z, chunks, c, frozen(x));
     put_stage(directory, first, 1, c, ChunkNo(NONE), ChunkNo(NONE));
@@ -110,7 +113,7 @@ pub fn begin(z: Sizes, directory: &mut [u64], chunks: &mut [u64], k: u64) -> Rep
 
 // The old chunk has no publisher left.
 pub fn drain(z: Sizes, directory: &mut [u64], tasks: &[u64]) -> Report
-    requires { ⌜ (length (now directory) ≡ 5) × (z .tasks * 11 ≤ length (now tasks)) ⌝ }
+    requires { ⌜ (length (now directory) ≡ 6 + z .chunks * 2) × (z .tasks * 11 ≤ length (now tasks)) ⌝ }
     ensures { λ r. ⌜ ((cs es vs ms : List ℕ) → gives (tables z (now (directory .exit)) (now (tasks .entry)) cs es vs ms) r ≡ drains z (tables z (now (directory .entry)) (now (tasks .entry)) cs es vs ms)) ⌝ }
 {
     let d = rows::directory_row(directory);
@@ -182,7 +185,7 @@ fn make_two(
 
 // The old chunk's entries that name a handle are copied: into one new chunk, or, more than half a chunk of them, into two.
 pub fn copy(z: Sizes, directory: &mut [u64], chunks: &mut [u64], entries: &mut [u64]) -> Report
-    requires { ⌜ (length (now directory) ≡ 5) × (length (now chunks) ≡ z .chunks * 6) × (length (now entries) ≡ z .chunks * z .entries * 3) ⌝ }
+    requires { ⌜ (length (now directory) ≡ 6 + z .chunks * 2) × (length (now chunks) ≡ z .chunks * 6) × (length (now entries) ≡ z .chunks * z .entries * 3) ⌝ }
     requires { ⌜ CanCopy z (directoryOf (now directory)) (chunkRows (z .chunks) (now chunks)) ⌝ }
     ensures { λ r. ⌜ ((ts vs ms : List ℕ) → gives (tables z (now (directory .exit)) ts (now (chunks .exit)) (now (entries .exit)) vs ms) r ≡ copies z (tables z (now (directory .entry)) ts (now (chunks .entry)) (now (entries .entry)) vs ms)) ⌝ }
 {
@@ -250,7 +253,7 @@ fn first_live(first: ChunkNo, old: ChunkNo, new: ChunkNo) -> ChunkNo
 
 // The new chunks stand in the old one's place, and it is retired.
 pub fn swap_in(z: Sizes, directory: &mut [u64], chunks: &mut [u64]) -> Report
-    requires { ⌜ (length (now directory) ≡ 5) × (length (now chunks) ≡ z .chunks * 6) ⌝ }
+    requires { ⌜ (length (now directory) ≡ 6 + z .chunks * 2) × (length (now chunks) ≡ z .chunks * 6) ⌝ }
     ensures { λ r. ⌜ ((ts es vs ms : List ℕ) → gives (tables z (now (directory .exit)) ts (now (chunks .exit)) es vs ms) r ≡ swapsIn z (tables z (now (directory .entry)) ts (now (chunks .entry)) es vs ms)) ⌝ }
 {
     let d = rows::directory_row(directory);
@@ -333,7 +336,8 @@ pub fn rebalance(
         1 => drain(z, directory, tasks),
         2 => copy(z, directory, chunks, entries),
         3 => swap_in(z, directory, chunks),
-        4 => release(z, directory, tasks, chunks, entries),
+        4 => indexing::index(z, directory, chunks),
+        5 => release(z, directory, tasks, chunks, entries),
         _ => Report::Refused(8),
     }
 }

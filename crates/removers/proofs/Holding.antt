@@ -13,9 +13,9 @@ use Rattle.rules.specs.declared.Directory.{Directory}
 use Rattle.rules.specs.declared.Entry.{Entry}
 use Rattle.rules.specs.declared.ChunkNo.{ChunkNo}
 use Rattle.rules.specs.declared.EntryNo.{EntryNo}
-use Rattle.rules.specs.Words.{NONE, noChunk, unused, live, retired, idle, toDrain, toCopy, toSwap, toRelease}
+use Rattle.rules.specs.Words.{NONE, noChunk, unused, live, retired, idle, toDrain, toCopy, toSwap, toIndex, toRelease}
 use Rattle.rules.specs.Tables.{Tables, chunk, entryAt, task, withDirectory, withChunks, withEntries}
-use Rattle.rules.specs.Rebalance.{Outcome, unusedCount, unusedFrom, publishedOn, heldChunk, namingFrom, at, begins, drains, copies, swapsIn, releases, rebalanceDoes}
+use Rattle.rules.specs.Rebalance.{Outcome, unusedCount, unusedFrom, publishedOn, heldChunk, namingFrom, at, begins, drains, copies, swapsIn, releases, rebalanceDoes, atRest}
 use Rattle.rules.specs.Calls.{does}
 use Rattle.rules.specs.Calls.Call.{rebalance}
 use Rattle.laws.proofs.Tests.{picked}
@@ -65,7 +65,7 @@ module _ (z : Sizes) (lim : Limited z) (s : Tables) (kept : Kept z s) where
       gone = s .directory .old
 
       to : Directory
-      to = record { first = s .directory .first; stage = idle; old = noChunk; new = noChunk; second = noChunk }
+      to = atRest (s .directory)
 
       gone-in : gone .0 < z .chunks
       gone-in = kept .tables .rebalancing .old (omega arith)
@@ -109,7 +109,8 @@ module _ (z : Sizes) (lim : Limited z) (s : Tables) (kept : Kept z s) where
       picked Q (eqb (s .directory .stage) toDrain) (λ _. drain-rows)
       (λ _. picked Q (eqb (s .directory .stage) toCopy) (λ e. copy-rows (eqb-true _ _ e))
       (λ _. picked Q (eqb (s .directory .stage) toSwap) (λ _. swap-rows)
-      (λ _. picked Q (eqb (s .directory .stage) toRelease) (λ e. release-rows (eqb-true _ _ e)) (λ _. unmoved))))
+      (λ _. picked Q (eqb (s .directory .stage) toIndex) (λ _. unmoved)
+      (λ _. picked Q (eqb (s .directory .stage) toRelease) (λ e. release-rows (eqb-true _ _ e)) (λ _. unmoved)))))
     where
       Q : (Sizes → Tables → Outcome) → Type 0
       Q f = HeldRows (f z s .tables)

@@ -5,7 +5,9 @@ use rules::Directory;
 use script::Asked;
 use script::Line;
 
-// How many words the lent tables have; a task's stack stands after every task's row.
+// How many words the lent tables have; the index stands after the directory's row, a task's stack after every task's row.
+pub const DIRECTORY_LENGTH: usize = rows::DIRECTORY_WORDS + Directory::CHUNKS * rows::INDEX_WORDS;
+
 pub const TASKS_LENGTH: usize = Directory::TASKS * rows::TASK_WORDS
     + Directory::TASKS * Directory::ENTRIES;
 
@@ -42,7 +44,7 @@ fn answer(
     asked: Asked,
     out: &mut [u8; 65536],
     at: usize,
-    directory: &mut [u64; rows::DIRECTORY_WORDS],
+    directory: &mut [u64; DIRECTORY_LENGTH],
     tasks: &mut [u64; TASKS_LENGTH],
     chunks: &mut [u64; CHUNKS_LENGTH],
     entries: &mut [u64; ENTRIES_LENGTH],
@@ -90,7 +92,7 @@ fn take(
     block: &[u8],
     from: Place,
     out: &mut [u8; 65536],
-    directory: &mut [u64; rows::DIRECTORY_WORDS],
+    directory: &mut [u64; DIRECTORY_LENGTH],
     tasks: &mut [u64; TASKS_LENGTH],
     chunks: &mut [u64; CHUNKS_LENGTH],
     entries: &mut [u64; ENTRIES_LENGTH],
@@ -134,7 +136,7 @@ fn answer_block(
     line: Line,
     input: &mut [u8],
     out: &mut [u8; 65536],
-    directory: &mut [u64; rows::DIRECTORY_WORDS],
+    directory: &mut [u64; DIRECTORY_LENGTH],
     tasks: &mut [u64; TASKS_LENGTH],
     chunks: &mut [u64; CHUNKS_LENGTH],
     entries: &mut [u64; ENTRIES_LENGTH],
@@ -169,7 +171,7 @@ fn answer_block(
 fn replay(
     input: &mut [u8; 65536],
     out: &mut [u8; 65536],
-    directory: &mut [u64; rows::DIRECTORY_WORDS],
+    directory: &mut [u64; DIRECTORY_LENGTH],
     tasks: &mut [u64; TASKS_LENGTH],
     chunks: &mut [u64; CHUNKS_LENGTH],
     entries: &mut [u64; ENTRIES_LENGTH],
@@ -214,7 +216,7 @@ fn replay(
 fn main() {
     let mut input = io::large_buffer();
     let mut out = io::large_buffer();
-    let mut directory = [0u64; rows::DIRECTORY_WORDS];
+    let mut directory = [0u64; DIRECTORY_LENGTH];
     let mut tasks = [0u64; TASKS_LENGTH];
     let mut chunks = [0u64; CHUNKS_LENGTH];
     let mut entries = [0u64; ENTRIES_LENGTH];

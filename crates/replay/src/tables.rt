@@ -1,11 +1,32 @@
 // Every table as lines, leaving out what is 0 and none throughout.
 use crate::CHUNKS_LENGTH;
+use crate::DIRECTORY_LENGTH;
 use crate::ENTRIES_LENGTH;
 use crate::TASKS_LENGTH;
 use crate::room;
 use rules::Directory;
 ghost use Prim.Native.Nat.{_<_};
 ghost use Rattle.rules.specs.Words.{limits};
+
+// The rows of the index that are in use.
+fn all_rows(
+    out: &mut [u8; 65536],
+    at: usize,
+    many: u64,
+    directory: &[u64; DIRECTORY_LENGTH],
+) -> usize {
+    let mut n = at;
+    let mut i = 0;
+    while i < Directory::CHUNKS {
+        if (i as u64) < many {
+            let x = rows::index_row(directory, i);
+            n = room(out, n);
+            n = script::index_line(out, n, i as u64, x);
+        }
+        i += 1;
+    }
+    n
+}
 
 // The used entries of chunk i.
 fn used_entries(
@@ -134,7 +155,7 @@ fn all_tasks(out: &mut [u8; 65536], at: usize, tasks: &[u64; TASKS_LENGTH]) -> u
 pub fn print(
     out: &mut [u8; 65536],
     at: usize,
-    directory: &[u64; rows::DIRECTORY_WORDS],
+    directory: &[u64; DIRECTORY_LENGTH],
     tasks: &[u64; TASKS_LENGTH],
     chunks: &[u64; CHUNKS_LENGTH],
     entries: &[u64; ENTRIES_LENGTH],
@@ -142,7 +163,9 @@ pub fn print(
     marks: &[u64; Directory::HANDLES],
 ) -> usize {
     let n = room(out, at);
-    let n = script::directory_lines(out, n, rows::directory_row(directory));
+    let d = rows::directory_row(directory);
+    let n = script::directory_lines(out, n, d);
+    let n = all_rows(out, n, d.indexed, directory);
     let n = all_chunks(out, n, chunks, entries);
     let n = all_handles(out, n, values, marks);
     all_tasks(out, n, tasks)

@@ -2,19 +2,22 @@
 use Prim.Native.Nat.{ℕ, zero, suc, _+_, _*_, _-_, _/_, _%_, _≤_, _<_}
 use mathlib.Core.Path.{_≡_, refl, sym, ap, _∙_}
 use mathlib.Core.List.{List, [], _∷_}
+use mathlib.Core.Logic.{_≢_, _⊎_, inl, inr}
 use native.Mathlib.Nat.{add-zero, zero-add, mul-zero, zero-lt-suc, not-suc-le-zero, mod-lt, div-add-mod', div-lt-iff-lt-mul}
 use native.Mathlib.Omega.{arith}
 use native.Mathlib.Decide.{decLt}
-use lib.ListN.{length, getD, set}
+use lib.ListN.{length, getD, set, length-set}
 use lib.Seq.{sets, ext-getD, getD-set-same, getD-set-other}
 use Rattle.rules.specs.declared.Sizes.{Sizes}
 use Rattle.rules.specs.declared.EntryNo.{EntryNo}
 use Rattle.rules.specs.declared.Directory.{Directory}
+use Rattle.rules.specs.declared.IndexRow.{IndexRow}
 use Rattle.rules.specs.declared.Task.{Task}
 use Rattle.rules.specs.declared.Chunk.{Chunk}
 use Rattle.rules.specs.declared.Entry.{Entry}
 use Rattle.rules.specs.Words.{chunkNo, entryNo, handleNo, noEntry}
-use Rattle.rows.specs.Rows.{rowsFrom, directoryOf, taskOf, chunkOf, entryOf, taskRows, chunkRows, entryRows, stackOf, stackRows, TaskPut, StackWord, StackPut}
+use Rattle.rules.specs.Tables.{emptyRow}
+use Rattle.rows.specs.Rows.{rowsFrom, directoryOf, indexOf, taskOf, chunkOf, entryOf, indexRows, taskRows, chunkRows, entryRows, stackOf, stackRows, DirectoryPut, IndexPut, TaskPut, StackWord, StackPut}
 use Rattle.rows.proofs.Laws.{row-read, row-below, row-same, row-alike, row-set, rows-differ, stored, kept, behind}
 
 -- a row of w words: made from them, and its words again
@@ -166,20 +169,73 @@ task-put ws i x fits = record { rows = task-rows ws i x fits; stacks = λ z h. s
         let q : i * 11 + 11 + j ≡ z .tasks * 11 + r = omega arith in
         rw (p, q) at (behind 11 ws (taskWords x) i refl fits j)
 
--- the directory's one row
-directoryLayout : Layout Directory 5
+-- ---- the directory's one row, and the index after it
+abbrev pub directoryWords : Directory → List ℕ
+directoryWords x = x .first .0 ∷ x .stage ∷ x .old .0 ∷ x .new .0 ∷ x .second .0 ∷ x .indexed ∷ []
+
+directoryLayout : Layout Directory 6
 unfolding rowsFrom
-directoryLayout = record { made = λ f. record { first = chunkNo (f 0); stage = f 1; old = chunkNo (f 2); new = chunkNo (f 3); second = chunkNo (f 4) }; words = λ x. x .first .0 ∷ x .stage ∷ x .old .0 ∷ x .new .0 ∷ x .second .0 ∷ []; back = λ x. refl; forth = λ f. refl; wide = λ x. refl }
+directoryLayout = record { made = λ f. record { first = chunkNo (f 0); stage = f 1; old = chunkNo (f 2); new = chunkNo (f 3); second = chunkNo (f 4); indexed = f 5 }; words = directoryWords; back = λ x. refl; forth = λ f. refl; wide = λ x. refl }
 
-pub directory-put : (ws : List ℕ) (x : Directory) → length ws ≡ 5 → directoryOf (sets ws 0 (x .first .0 ∷ x .stage ∷ x .old .0 ∷ x .new .0 ∷ x .second .0 ∷ [])) ≡ x
+directory-alike : (ws vs : List ℕ) → ((o : ℕ) → o < 6 → getD ws o 0 ≡ getD vs o 0) → directoryOf ws ≡ directoryOf vs
 unfolding directoryLayout
-directory-put ws x long =
-    alike directoryLayout _ _ (λ o h. rw zero-add at (stored 5 ws (directoryLayout .words x) 0 refl (omega arith) o h))
-    ∙ directoryLayout .back x
+directory-alike ws vs h = alike directoryLayout (λ o. getD ws o 0) (λ o. getD vs o 0) h
 
-pub directory-same : (ws vs : List ℕ) → length ws ≡ 5 → length vs ≡ 5 → directoryOf ws ≡ directoryOf vs → ws ≡ vs
+index-alike : (ws vs : List ℕ) → ((r : ℕ) → getD ws (6 + r) 0 ≡ getD vs (6 + r) 0) → (n : ℕ) → indexRows n ws ≡ indexRows n vs
+index-alike ws vs h n = row-alike (indexOf ws) (indexOf vs) n (λ i l. row i)
+  where
+    row : (i : ℕ) → indexOf ws i ≡ indexOf vs i
+    row i =
+        let e : 6 + (i * 2 + 1) ≡ 6 + i * 2 + 1 = omega arith in
+        rw (h (i * 2), rw e at (h (i * 2 + 1)))
+
+pub directory-put : (ws : List ℕ) (x : Directory) → 6 ≤ length ws → DirectoryPut ws (sets ws 0 (directoryWords x)) x
 unfolding directoryLayout
-directory-same ws vs a b e = ext-getD 0 ws vs (a ∙ sym b) (λ o h. apart directoryLayout (λ o. getD ws o 0) (λ o. getD vs o 0) e o (rw a at h))
+directory-put ws x fits = record { row = row; index = index-alike (sets ws 0 (directoryWords x)) ws (λ r. rw zero-add at (behind 6 ws (directoryWords x) 0 refl fits r)) }
+  where
+    row : directoryOf (sets ws 0 (directoryWords x)) ≡ x
+    row = alike directoryLayout _ _ (λ o h. rw zero-add at (stored 6 ws (directoryWords x) 0 refl fits o h)) ∙ directoryLayout .back x
+
+pub index-put : (ws : List ℕ) (i : ℕ) (x : IndexRow) → 6 + i * 2 + 2 ≤ length ws → IndexPut ws (set (set ws (6 + i * 2) (x .min)) (6 + i * 2 + 1) (x .chunk .0)) i x
+index-put ws i x fits = record { rows = λ n. row-set (indexOf ws) (indexOf after) n i x own others; row = directory-alike after ws (λ o h. other o (λ q. absurd (omega arith)) (λ q. absurd (omega arith))) }
+  where
+    first : List ℕ
+    first = set ws (6 + i * 2) (x .min)
+
+    after : List ℕ
+    after = set first (6 + i * 2 + 1) (x .chunk .0)
+
+    other : (j : ℕ) → j ≢ 6 + i * 2 → j ≢ 6 + i * 2 + 1 → getD after j 0 ≡ getD ws j 0
+    other j h l = getD-set-other first (6 + i * 2 + 1) j (x .chunk .0) 0 l ∙ getD-set-other ws (6 + i * 2) j (x .min) 0 h
+
+    own : indexOf after i ≡ x
+    own =
+        let min : getD after (6 + i * 2) 0 ≡ x .min = getD-set-other first (6 + i * 2 + 1) (6 + i * 2) (x .chunk .0) 0 (λ q. absurd (omega arith)) ∙ getD-set-same ws (6 + i * 2) (x .min) 0 (omega arith) in
+        let chunk : getD after (6 + i * 2 + 1) 0 ≡ x .chunk .0 = getD-set-same first (6 + i * 2 + 1) (x .chunk .0) 0 (rw length-set (omega arith)) in
+        rw (min, chunk)
+
+    others : (k : ℕ) → k ≢ i → indexOf after k ≡ indexOf ws k
+    others k h = rw (other (6 + k * 2) (λ q. h (omega arith)) (λ q. absurd (omega arith)), other (6 + k * 2 + 1) (λ q. absurd (omega arith)) (λ q. h (omega arith)))
+
+-- words lent as asked are told apart by the directory's row and the index
+pub directory-same : (n : ℕ) (ws vs : List ℕ) → length ws ≡ 6 + n * 2 → length vs ≡ 6 + n * 2 → directoryOf ws ≡ directoryOf vs → indexRows n ws ≡ indexRows n vs → ws ≡ vs
+unfolding directoryLayout
+directory-same n ws vs a b e f = ext-getD 0 ws vs (a ∙ sym b) (λ j h. word j h (decLt j 6))
+  where
+    indexed : (i : ℕ) → i < n → (j : ℕ) → (j ≡ 6 + i * 2) ⊎ (j ≡ 6 + i * 2 + 1) → getD ws j 0 ≡ getD vs j 0
+    indexed i h j (inl q) = rw q (ap (λ (x : IndexRow). x .min) (row-same (indexOf ws) (indexOf vs) n i emptyRow h f))
+    indexed i h j (inr q) = rw q (ap (λ (x : IndexRow). x .chunk .0) (row-same (indexOf ws) (indexOf vs) n i emptyRow h f))
+
+    which : (i j : ℕ) → 6 + i * 2 ≤ j → j ≤ 6 + i * 2 + 1 → (j ≡ 6 + i * 2) ⊎ (j ≡ 6 + i * 2 + 1)
+    which i j h l = go (decLt (6 + i * 2) j)
+      where
+        go : Dec (6 + i * 2 < j) → (j ≡ 6 + i * 2) ⊎ (j ≡ 6 + i * 2 + 1)
+        go (yes p) = inr (omega arith)
+        go (no p) = inl (omega arith)
+
+    word : (j : ℕ) → j < length ws → Dec (j < 6) → getD ws j 0 ≡ getD vs j 0
+    word j h (yes l) = apart directoryLayout (λ o. getD ws o 0) (λ o. getD vs o 0) e j l
+    word j h (no l) = indexed ((j - 6) / 2) (omega (arith, a)) j (which ((j - 6) / 2) j (omega arith) (omega arith))
 
 -- `towards-suc` ends at 8
 pub nine : (n : ℕ) → n + 9 ≡ suc (n + 8)

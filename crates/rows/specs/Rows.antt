@@ -6,16 +6,18 @@ use lib.ListN.{length, getD, set}
 use denote.Ref.{RefT}
 use denote.Triple.Both.{Both}
 use Rattle.rules.specs.declared.Sizes.{Sizes}
+use Rattle.rules.specs.declared.Directory.{Directory}
+use Rattle.rules.specs.declared.IndexRow.{IndexRow}
 use Rattle.rules.specs.declared.Task.{Task}
 use Rattle.rules.specs.declared.ChunkNo.{ChunkNo}
 use Rattle.rules.specs.declared.EntryNo.{EntryNo}
 use Rattle.rules.specs.Tables.{Tables}
-pub use Rattle.rules.specs.Layout.{directoryOf, taskOf, chunkOf, entryOf, taskRows, chunkRows, entryRows, stackOf, stackRows, tables}
+pub use Rattle.rules.specs.Layout.{directoryOf, indexOf, taskOf, chunkOf, entryOf, indexRows, taskRows, chunkRows, entryRows, stackOf, stackRows, tables}
 unfoldable pub use Rattle.rules.specs.Layout.{rowsFrom}
 
 -- each table has the words that the sizes ask
 pub record Lent (z : Sizes) (d ts cs es vs ms : List ℕ) : Type 0 where
-  pub directory : length d ≡ 5
+  pub directory : length d ≡ 6 + z .chunks * 2
   pub tasks : length ts ≡ z .tasks * 11 + z .tasks * z .entries
   pub chunks : length cs ≡ z .chunks * 6
   pub entries : length es ≡ z .chunks * z .entries * 3
@@ -50,6 +52,16 @@ pub record Numbers (z : Sizes) (es : List ℕ) (c : ChunkNo) (e : EntryNo) : Typ
   pub chunk : c .0 < z .chunks
   pub entry : e .0 < z .entries
   pub long : length es ≡ z .chunks * z .entries * 3
+
+-- the directory's own row is written: every row of the index stays
+pub record DirectoryPut (before after : List ℕ) (x : Directory) : Type 0 where
+  pub row : directoryOf after ≡ x
+  pub index : (n : ℕ) → indexRows n after ≡ indexRows n before
+
+-- row i of the index is written: its other rows stay, and the directory's own row
+pub record IndexPut (before after : List ℕ) (i : ℕ) (x : IndexRow) : Type 0 where
+  pub rows : (n : ℕ) → indexRows n after ≡ set (indexRows n before) i x
+  pub row : directoryOf after ≡ directoryOf before
 
 -- task i's row is written in the tasks' table: the other rows stay, and every stack
 pub record TaskPut (before after : List ℕ) (i : ℕ) (x : Task) : Type 0 where

@@ -6,6 +6,7 @@ use rules::Directory;
 use rules::Entry;
 use rules::EntryNo;
 use rules::HandleNo;
+use rules::IndexRow;
 use rules::NONE;
 use rules::Sizes;
 use rules::Task;
@@ -14,11 +15,13 @@ ghost use Prim.Native.Nat.{ℕ, _+_, _*_, _^_, _<_, _≤_};
 ghost use mathlib.Core.List.{[]};
 ghost use lib.ListN.{length, set, getD};
 ghost use Rattle.rules.specs.Words.{noEntry};
-ghost use Rattle.rules.specs.Tables.{idleTask, emptyChunk, emptyEntry, row, chunkAt, entryAt};
-ghost use Rattle.rows.specs.Rows.{directoryOf, taskOf, chunkOf, entryOf, chunkRows, entryRows, stackRows, Numbers, TaskPut, StackWord, StackPut};
+ghost use Rattle.rules.specs.Tables.{idleTask, emptyChunk, emptyEntry, emptyRow, row, chunkAt, entryAt};
+ghost use Rattle.rows.specs.Rows.{directoryOf, indexOf, taskOf, chunkOf, entryOf, chunkRows, entryRows, stackRows, Numbers, DirectoryPut, IndexPut, TaskPut, StackWord, StackPut};
 
-// How many words a row has: the directory's own, a task's, a chunk's, an entry's.
-pub const DIRECTORY_WORDS: usize = 5;
+// How many words a row has: the directory's own, one of the index, a task's, a chunk's, an entry's.
+pub const DIRECTORY_WORDS: usize = 6;
+
+pub const INDEX_WORDS: usize = 2;
 
 pub const TASK_WORDS: usize = 11;
 
@@ -28,7 +31,7 @@ pub const ENTRY_WORDS: usize = 3;
 
 // The directory's own row.
 pub fn directory_row(words: &[u64]) -> Directory
-    requires { ⌜ length (now words) ≡ 5 ⌝ }
+    requires { ⌜ 6 ≤ length (now words) ⌝ }
     ensures { λ r. ⌜ r ≡ directoryOf (now (words .entry)) ⌝ }
 {
     Directory {
@@ -37,18 +40,41 @@ pub fn directory_row(words: &[u64]) -> Directory
         old: ChunkNo(words[2]),
         new: ChunkNo(words[3]),
         second: ChunkNo(words[4]),
+        indexed: words[5],
     }
 }
 
 pub fn put_directory_row(words: &mut [u64], x: Directory)
-    requires { ⌜ length (now words) ≡ 5 ⌝ }
-    ensures { λ _. ⌜ directoryOf (now (words .exit)) ≡ x ⌝ }
+    requires { ⌜ 6 ≤ length (now words) ⌝ }
+    ensures { λ _. ⌜ DirectoryPut (now (words .entry)) (now (words .exit)) x ⌝ }
 {
     words[0] = x.first.0;
     words[1] = x.stage;
     words[2] = x.old.0;
     words[3] = x.new.0;
     words[4] = x.second.0;
+    words[5] = x.indexed;
+}
+
+// Row `i` of the index: the index stands after the directory's own row.
+pub fn index_row(words: &[u64], i: usize) -> IndexRow
+    requires { ⌜ 6 + i * 2 + 2 ≤ length (now words) ⌝ }
+    ensures { λ r. ⌜ r ≡ indexOf (now (words .entry)) i ⌝ }
+{
+    let at = DIRECTORY_WORDS + i * INDEX_WORDS;
+    IndexRow {
+        min: words[at],
+        chunk: ChunkNo(words[at + 1]),
+    }
+}
+
+pub fn put_index_row(words: &mut [u64], i: usize, x: IndexRow)
+    requires { ⌜ 6 + i * 2 + 2 ≤ length (now words) ⌝ }
+    ensures { λ _. ⌜ IndexPut (now (words .entry)) (now (words .exit)) i x ⌝ }
+{
+    let at = DIRECTORY_WORDS + i * INDEX_WORDS;
+    words[at] = x.min;
+    words[at + 1] = x.chunk.0;
 }
 
 // Row `i` of the tasks' table.
@@ -182,6 +208,15 @@ pub fn empty_entry() -> Entry
         key: 0,
         handle: HandleNo(NONE),
         next: EntryNo(NONE),
+    }
+}
+
+pub fn empty_row() -> IndexRow
+    ensures { λ r. ⌜ r ≡ emptyRow ⌝ }
+{
+    IndexRow {
+        min: 0,
+        chunk: ChunkNo(NONE),
     }
 }
 

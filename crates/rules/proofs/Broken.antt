@@ -6,22 +6,23 @@ use mathlib.Core.List.{List, [], _∷_, map, List·Memᴰ, List·Memᴰ·not-nil
 use Rattle.rules.specs.declared.Report.the-variants as report
 use Rattle.rules.specs.Words.{pick, _and_, limits}
 use Rattle.rules.specs.Tables.{Tables}
-use Rattle.rules.specs.Walks.{locateFrom, beforeFrom, listFrom, findFrom, placeFrom, presentFrom, withinFrom, depth, over, namedIn, heldIn, freeFrom}
+use Rattle.rules.specs.Walks.{locateFrom, beforeFrom, chainFrom, listFrom, findFrom, placeFrom, presentFrom, withinFrom, depth, over, namedIn, heldIn, freeFrom}
 use Rattle.rules.specs.Stages.{stageDoes}
 use Rattle.rules.specs.Rebalance.{gives, unusedCount, unusedFrom, publishedOn, heldChunk, namingFrom, fill, clears, rebalanceDoes}
-use Rattle.rules.specs.Shape.{each, liveCount, ascendsFrom, chainCount, linkedFrom, risesFrom, chained, taskRight, stackRight, rebalanceFits, shape}
+use Rattle.rules.specs.Shape.{each, liveCount, ascendsFrom, chainCount, linkedFrom, risesFrom, rowsAscend, chained, taskRight, stackRight, rebalanceFits, indexRight, shape}
 use Rattle.rules.specs.Calls.{Call, does, calls}
-use Rattle.rules.specs.Unbroken.{after, steps, stores, stored, inserting, removing, mixed, scanning, rebalancing, liveRows, soundTables}
+use Rattle.rules.specs.Unbroken.{after, steps, stores, stored, inserting, removing, mixed, scanning, rebalancing, liveChunks, soundTables}
 use Rattle.rules.specs.Broken.{brokenTables}
 use Rattle.rules.proofs.Tests.{pick-same}
 
--- ---- the chain, the tasks and the rebalancer are soon computed, so they are looked at first, and then the whole shape
+-- ---- the chain, the tasks, the rebalancer and the index are soon computed, so they are looked at first, and then the whole shape
 abbrev last : Tables → Bool
 last s =
     let tasks = each (taskRight limits s) 0 (s .tasks) in
     let stacks = each (stackRight limits s) 0 (s .tasks) in
     let rebalance = rebalanceFits limits s in
-    chained limits s and tasks and stacks and rebalance
+    let index = indexRight limits s in
+    chained limits s and tasks and stacks and rebalance and index
 
 abbrev lastThenAll : Tables → Bool
 lastThenAll s = let all = shape limits s in pick (last s) all false
@@ -39,12 +40,12 @@ then-false s h = go (last s) (last-false s) h
 
 -- to unfold this is to unfold every rule that computes
 unfoldable pub everyRule : Bool
-unfolding does shape each liveCount ascendsFrom chainCount linkedFrom risesFrom stageDoes rebalanceDoes locateFrom beforeFrom listFrom findFrom placeFrom presentFrom withinFrom depth over namedIn heldIn freeFrom unusedCount unusedFrom publishedOn heldChunk namingFrom fill clears
+unfolding does shape each liveCount ascendsFrom chainCount linkedFrom risesFrom rowsAscend stageDoes rebalanceDoes locateFrom beforeFrom chainFrom listFrom findFrom placeFrom presentFrom withinFrom depth over namedIn heldIn freeFrom unusedCount unusedFrom publishedOn heldChunk namingFrom fill clears
 everyRule = true
 
 -- ---- by computing: the broken ones first, so that a shape without one of its clauses fails there
 pub judged : (map lastThenAll brokenTables ≡ map (λ s. false) brokenTables) × (map (shape limits) soundTables ≡ map (λ s. true) soundTables)
-unfolding brokenTables soundTables after steps stores stored inserting removing mixed scanning rebalancing liveRows everyRule
+unfolding brokenTables soundTables after steps stores stored inserting removing mixed scanning rebalancing liveChunks everyRule
 judged = (refl, refl)
 
 -- ---- for each table of the list

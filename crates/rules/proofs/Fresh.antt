@@ -2,17 +2,18 @@
 use Prim.Native.Nat.{ℕ, zero, suc, _+_, _*_, _-_, _≤_, _<_, min}
 use mathlib.Core.Path.{_≡_, refl, _∙_}
 use mathlib.Core.Bool.{true}
-use mathlib.Core.List.{[]}
+use mathlib.Core.List.{List, []}
 use native.Mathlib.Nat.{zero-min, min-zero, suc-min-suc, sub-zero, zero-sub, suc-sub-suc, not-suc-le-zero, le-of-suc-le-suc}
 use native.Mathlib.Omega.{arith}
 use lib.Dec.{eqb, leb, leb·zero}
 use lib.ListN.{length, getD, set, take, drop, replicate, length-replicate, length-set}
 use borrow.Author.Tests.{lt-ltb, le-ltb, eq-eqb, ne-eqb}
 use Rattle.rules.specs.declared.Sizes.{Sizes}
+use Rattle.rules.specs.declared.Chunk.{Chunk}
 use Rattle.rules.specs.Words.{_and_, NONE, chunkNo, noEntry, live}
-use Rattle.rules.specs.Tables.{emptyChunk, emptyEntry, emptyStack, idleTask, chunkAt, stack}
+use Rattle.rules.specs.Tables.{emptyChunk, emptyEntry, emptyStack, emptyRow, emptyIndex, idleTask, chunkAt, stack}
 use Rattle.rules.specs.Rebalance.{withStatus}
-use Rattle.rules.specs.Shape.{each, shape, slotRight, slotsOf, chunkRight, chunkFits, taskRight, stackRight, isNone, allNone, ascendsFrom, chainCount, liveCount, sized, chained}
+use Rattle.rules.specs.Shape.{each, shape, slotRight, slotsOf, chunkRight, chunkFits, taskRight, stackRight, isNone, allNone, ascendsFrom, chainCount, liveCount, sized, chained, indexRight, rowsAscend}
 use Rattle.rules.specs.Calls.{fresh}
 use Rattle.rules.proofs.Tests.{both, pick-same}
 use Rattle.rules.proofs.Each.{each-replicate, each-set}
@@ -84,11 +85,26 @@ module _ (z : Sizes) where
       (both _ _ (eq-eqb _ _ (length-replicate {A = ℕ} (z .handles) 0))
       (both _ _ (eq-eqb _ _ (length-replicate {A = ℕ} (z .handles) 0))
       (both _ _ (eq-eqb _ _ (length-replicate (z .tasks) (emptyStack z)))
-      (each-replicate (λ n w. eqb (length w) (z .entries)) 0 (z .tasks) (emptyStack z) (λ i b. eq-eqb _ _ (length-replicate (z .entries) noEntry))))))))
+      (both _ _ (each-replicate (λ n w. eqb (length w) (z .entries)) 0 (z .tasks) (emptyStack z) (λ i b. eq-eqb _ _ (length-replicate (z .entries) noEntry)))
+      (eq-eqb _ _ (length-set (emptyIndex z) 0 (record { min = 0; chunk = chunkNo 0 }) ∙ length-replicate (z .chunks) emptyRow))))))))
 
   -- nothing is on a stack
   fresh-stack : (n : ℕ) → n < z .tasks → allNone (stack (fresh z) n) ≡ true
   fresh-stack n b = rw (getD-replicate (z .tasks) n (emptyStack z) [] b) (each-replicate (λ n e. isNone (e .0)) 0 (z .entries) noEntry (λ i b. refl))
+
+  -- past the row of chunk 0 the index is empty
+  pub empty-rows : (cs : List Chunk) (k n : ℕ) → rowsAscend z cs 0 k (replicate n emptyRow) ≡ true
+  unfolding rowsAscend
+  empty-rows cs k zero = refl
+  empty-rows cs k (suc n) = empty-rows cs k n
+
+  fresh-index : 1 ≤ z .chunks → indexRight z (fresh z) ≡ true
+  unfolding rowsAscend
+  fresh-index one = go (z .chunks) one
+    where
+      go : (n : ℕ) → 1 ≤ n → rowsAscend z (set (replicate n emptyChunk) 0 (withStatus emptyChunk live)) 1 0 (set (replicate n emptyRow) 0 (record { min = 0; chunk = chunkNo 0 })) ≡ true
+      go zero h = absurd (not-suc-le-zero h)
+      go (suc n) h = rw (lt-ltb 0 (z .chunks) one, empty-rows (set (replicate (suc n) emptyChunk) 0 (withStatus emptyChunk live)) 1 n)
 
   pub fresh-shape : 1 ≤ z .chunks → z .chunks ≤ NONE → shape z (fresh z) ≡ true
   fresh-shape one le =
@@ -101,4 +117,5 @@ module _ (z : Sizes) where
         tasks = each-replicate (taskRight z (fresh z)) 0 (z .tasks) idleTask (λ i b. refl);
         stacks = each-replicate (stackRight z (fresh z)) 0 (z .tasks) idleTask (λ i b. fresh-stack (0 + i) (omega (arith, b)));
         rebalance = fresh-fits le;
+        index = fresh-index one;
       })

@@ -1,10 +1,10 @@
--- M1 to M12, the cases beside them, those of former values and those of scans down hold of the rules, at document 01's sizes: by computing, the longest two in stages.
+-- M1 to M12, the cases beside them, those of former values, those of scans down and that of the index hold of the rules, at document 01's sizes: by computing, the longest three in stages.
 use mathlib.Core.Path.{_≡_, refl, _∙_, sym}
 use mathlib.Core.List.{List, _++_, map}
 use borrow.Table.Elements.{map-app}
 use Rattle.rules.specs.Words.{limits}
 use Rattle.rules.specs.Calls.{fresh, does}
-use Rattle.rules.specs.Cases.{Line, says, runs, moves, putsOn, falls, emptyDown, retiredDown, inOne, inTwo, inThree, scansAll, scansRange, wholeDown, rangeDown, baseCases, fillCases, downCases, formerCases, markedCases}
+use Rattle.rules.specs.Cases.{Line, says, runs, moves, putsOn, falls, emptyDown, retiredDown, inOne, inTwo, inThree, scansAll, scansRange, wholeDown, rangeDown, locatesBetween, between, baseCases, fillCases, downCases, formerCases, indexCases, markedCases}
 use Rattle.rules.proofs.Broken.{everyRule, judged}
 use Rattle.rules.proofs.Staged.{Holds, Stage, leftBy, then-holds, rowsFrom, one, two, three}
 
@@ -36,7 +36,7 @@ fills : AllHold fillCases
 unfolding everyRule runs moves putsOn
 fills = let judge = judged in let before = retiredHolds in refl
 
--- the longest two, of scans down, in stages
+-- the longest three, of the index and of scans down, in stages
 inOneStage : Stage (fresh limits) inOne one
 unfolding everyRule runs leftBy rowsFrom moves putsOn
 inOneStage = let judge = judged in let before = fills in (refl, refl)
@@ -49,9 +49,13 @@ rangeHolds : Holds two scansRange
 unfolding everyRule runs rowsFrom moves falls
 rangeHolds = let judge = judged in let before = inTwoStage in refl
 
+betweenHolds : Holds two locatesBetween
+unfolding everyRule runs rowsFrom moves
+betweenHolds = let judge = judged in let before = rangeHolds in refl
+
 inThreeStage : Stage two inThree three
 unfolding everyRule runs leftBy rowsFrom moves putsOn
-inThreeStage = let judge = judged in let before = rangeHolds in (refl, refl)
+inThreeStage = let judge = judged in let before = betweenHolds in (refl, refl)
 
 allHolds : Holds three scansAll
 unfolding everyRule runs rowsFrom moves falls
@@ -68,9 +72,19 @@ whole = after-two (inThree ++ scansAll) (then-holds two three inThree scansAll i
 range : Holds (fresh limits) rangeDown
 range = after-two scansRange rangeHolds
 
+between-two : Holds (fresh limits) between
+between-two = after-two locatesBetween betweenHolds
+
 down : AllHold downCases
 down = rw (emptyHolds, retiredHolds, whole, range)
 
+index : AllHold indexCases
+index = rw between-two
+
 -- what the rules say of each case, line by line, is what the case says
 pub marked : map (runs does (fresh limits)) markedCases ≡ map (map says) markedCases
-marked = both-hold baseCases (fillCases ++ downCases ++ formerCases) base (both-hold fillCases (downCases ++ formerCases) fills (both-hold downCases formerCases down formers))
+marked =
+    both-hold baseCases (fillCases ++ downCases ++ formerCases ++ indexCases) base
+    (both-hold fillCases (downCases ++ formerCases ++ indexCases) fills
+    (both-hold downCases (formerCases ++ indexCases) down
+    (both-hold formerCases indexCases formers index)))

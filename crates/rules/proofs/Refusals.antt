@@ -105,6 +105,7 @@ module _ (z : Sizes) (s : Tables) where
       (done s rebalance _ (simp spoken))
       (done s rebalance _ (simp spoken))
       (done s rebalance _ refl)
+      (done s rebalance _ refl)
       (done s rebalance _ (simp spoken))
       (s .directory .stage)
       (rebalance-known z s h)

@@ -12,7 +12,7 @@ use borrow.Author.Tests.{lt-ltb, ltb-true, leb-true, eqb-true}
 use Rattle.rules.specs.declared.Sizes.{Sizes}
 use Rattle.rules.specs.Words.{_and_, _or_, get, put, putIfAbsent, upsert, compute, remove, scan, scanDown, idle, toDrain, toCopy, toSwap, toRelease}
 use Rattle.rules.specs.Tables.{Tables, task, idleTask}
-use Rattle.rules.specs.Shape.{each, shape, sized, chunkRight, chained, taskRight, stackRight, rebalanceFits, fitsOperation}
+use Rattle.rules.specs.Shape.{each, shape, sized, chunkRight, chained, taskRight, stackRight, rebalanceFits, indexRight, fitsOperation}
 use Rattle.rules.proofs.Tests.{and-left, and-right, both, or-cases, from-picked}
 use Rattle.rules.proofs.Each.{each-at}
 
@@ -25,6 +25,7 @@ pub record Shaped (z : Sizes) (s : Tables) : Type 0 where
   pub tasks : each (taskRight z s) 0 (s .tasks) ≡ true
   pub stacks : each (stackRight z s) 0 (s .tasks) ≡ true
   pub rebalance : rebalanceFits z s ≡ true
+  pub index : indexRight z s ≡ true
 
 module _ (z : Sizes) (s : Tables) where
   pub shape-parts : shape z s ≡ true → Shaped z s
@@ -36,6 +37,7 @@ module _ (z : Sizes) (s : Tables) where
       let h4 = and-right (each (chunkRight z s) 0 (s .chunks)) _ h3 in
       let h5 = and-right (chained z s) _ h4 in
       let h6 = and-right (each (taskRight z s) 0 (s .tasks)) _ h5 in
+      let h7 = and-right (each (stackRight z s) 0 (s .tasks)) _ h6 in
       record {
         is-sized = and-left (sized z s) _ h;
         marks = and-left (each (λ n m. leb m 1) 0 (s .marks)) _ h1;
@@ -44,7 +46,8 @@ module _ (z : Sizes) (s : Tables) where
         chain = and-left (chained z s) _ h4;
         tasks = and-left (each (taskRight z s) 0 (s .tasks)) _ h5;
         stacks = and-left (each (stackRight z s) 0 (s .tasks)) _ h6;
-        rebalance = and-right (each (stackRight z s) 0 (s .tasks)) _ h6;
+        rebalance = and-left (rebalanceFits z s) _ h7;
+        index = and-right (rebalanceFits z s) _ h7;
       }
 
   pub parts-shape : Shaped z s → shape z s ≡ true
@@ -57,7 +60,8 @@ module _ (z : Sizes) (s : Tables) where
       (both (chained z s) _ (h .chain)
       (both (each (taskRight z s) 0 (s .tasks)) _ (h .tasks)
       (both (each (stackRight z s) 0 (s .tasks)) _ (h .stacks)
-      (h .rebalance)))))))
+      (both (rebalanceFits z s) _ (h .rebalance)
+      (h .index))))))))
 
 -- ---- "each stage is known"
 module _ (n : ℕ) where
@@ -93,15 +97,15 @@ module _ (z : Sizes) (s : Tables) (h : shape z s ≡ true) where
       outside : length (s .tasks) ≤ n → task s n .stage ≤ 23
       outside b = rw (List·getD-eq-default (s .tasks) idleTask b) (omega arith)
 
-  -- the rebalance is idle, or at one of its four stages
-  pub rebalance-known : s .directory .stage ≤ 4
+  -- the rebalance is idle, or at one of its five stages
+  pub rebalance-known : s .directory .stage ≤ toRelease
   rebalance-known =
       (from-picked (eqb (s .directory .stage) idle) _ _ (λ e i. omega (arith, eqb-true)) λ e.
       from-picked (eqb (s .directory .stage) toDrain or eqb (s .directory .stage) toCopy) _ _
-      (λ e i. one-of toDrain toCopy (omega arith) (omega arith) e) λ e.
-      from-picked (eqb (s .directory .stage) toSwap or eqb (s .directory .stage) toRelease) _ _
-      (λ e i. one-of toSwap toRelease (omega arith) (omega arith) e) λ e i. absurd (false≢true i))
+      (λ e i. early e) λ e.
+      from-picked (leb toSwap (s .directory .stage) and leb (s .directory .stage) toRelease) _ _
+      (λ e i. leb-true _ _ (and-right (leb toSwap (s .directory .stage)) _ e)) λ e i. absurd (false≢true i))
       (and-left _ _ (shape-parts z s h .rebalance))
     where
-      one-of : (a b : ℕ) → a ≤ 4 → b ≤ 4 → (eqb (s .directory .stage) a or eqb (s .directory .stage) b) ≡ true → s .directory .stage ≤ 4
-      one-of a b p q e = ⊎-elim (λ (x : eqb (s .directory .stage) a ≡ true). omega (arith, eqb-true)) (λ (x : eqb (s .directory .stage) b ≡ true). omega (arith, eqb-true)) (or-cases _ _ e)
+      early : (eqb (s .directory .stage) toDrain or eqb (s .directory .stage) toCopy) ≡ true → s .directory .stage ≤ toRelease
+      early e = ⊎-elim (λ (x : eqb (s .directory .stage) toDrain ≡ true). omega (arith, eqb-true)) (λ (x : eqb (s .directory .stage) toCopy ≡ true). omega (arith, eqb-true)) (or-cases _ _ e)

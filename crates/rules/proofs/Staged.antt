@@ -4,16 +4,18 @@ use Prim.Native.Nat.{ℕ, zero, suc, _+_, _-_, _*_}
 use mathlib.Core.Path.{_≡_, refl, _∙_, sym}
 use mathlib.Core.List.{List, [], _∷_, _++_, map}
 use lib.Dec.{eqb}
-use lib.ListN.{replicate}
+use lib.ListN.{length, replicate}
 use borrow.Table.Elements.{map-app}
 use Rattle.rules.specs.declared.Sizes.{Sizes}
 use Rattle.rules.specs.declared.Chunk.{Chunk}
 use Rattle.rules.specs.declared.Entry.{Entry}
 use Rattle.rules.specs.declared.ChunkNo.{ChunkNo}
+use Rattle.rules.specs.declared.IndexRow.{IndexRow}
 use Rattle.rules.specs.Words.{pick, limits, chunkNo, entryNo, handleNo, noChunk, noEntry, live, idle}
-use Rattle.rules.specs.Tables.{Tables, idleTask, emptyChunk, emptyEntry, emptyStack}
+use Rattle.rules.specs.Tables.{Tables, idleTask, emptyChunk, emptyEntry, emptyStack, emptyRow}
 use Rattle.rules.specs.Rebalance.{Outcome}
 use Rattle.rules.specs.Calls.{Call, does}
+use Rattle.rules.specs.Unbroken.{indexRow}
 use Rattle.rules.specs.Cases.{Line, says, runs}
 use Rattle.rules.specs.Cases.Line.{reports, shows}
 
@@ -57,26 +59,27 @@ slots k many = rowsFrom 0 k many ++ replicate (limits .entries - many) emptyEntr
 abbrev liveRow : ChunkNo → ℕ → ℕ → Chunk
 liveRow next min used = record { status = live; frozen = 0; min = min; next = next; head = entryNo 0; used = used }
 
--- the keys 1 to n are in, each with the value 7, and nothing is under way; the first live chunk, and the rows of the chunks 0 to 3
-abbrev resting : ℕ → ℕ → List Chunk → List Entry → Tables
-resting n first cs es = record {
-  directory = record { first = chunkNo first; stage = idle; old = noChunk; new = noChunk; second = noChunk };
+-- the keys 1 to n are in, each with the value 7, and nothing is under way; the first live chunk, the rows of the chunks 0 to 3, and those of the index
+abbrev resting : ℕ → ℕ → List Chunk → List Entry → List IndexRow → Tables
+resting n first cs es rows = record {
+  directory = record { first = chunkNo first; stage = idle; old = noChunk; new = noChunk; second = noChunk; indexed = length rows };
   tasks = replicate (limits .tasks) idleTask;
   chunks = cs ++ replicate (limits .chunks - 4) emptyChunk;
   entries = es ++ replicate ((limits .chunks - 4) * limits .entries) emptyEntry;
   values = replicate n 7 ++ replicate (limits .handles - n) 0;
   marks = replicate (limits .handles) 0;
   stacks = replicate (limits .tasks) (emptyStack limits);
+  index = rows ++ replicate (limits .chunks - length rows) emptyRow;
 }
 
 -- the keys 1 to 9 in one chunk
 abbrev pub one : Tables
-one = resting 9 0 (liveRow noChunk 0 9 ∷ emptyChunk ∷ emptyChunk ∷ emptyChunk ∷ []) (slots 1 9 ++ slots 0 0 ++ slots 0 0 ++ slots 0 0)
+one = resting 9 0 (liveRow noChunk 0 9 ∷ emptyChunk ∷ emptyChunk ∷ emptyChunk ∷ []) (slots 1 9 ++ slots 0 0 ++ slots 0 0 ++ slots 0 0) (indexRow 0 0 ∷ [])
 
 -- the keys 1 to 17 in two
 abbrev pub two : Tables
-two = resting 17 1 (emptyChunk ∷ liveRow (chunkNo 2) 0 9 ∷ liveRow noChunk 10 8 ∷ emptyChunk ∷ []) (slots 0 0 ++ slots 1 9 ++ slots 10 8 ++ slots 0 0)
+two = resting 17 1 (emptyChunk ∷ liveRow (chunkNo 2) 0 9 ∷ liveRow noChunk 10 8 ∷ emptyChunk ∷ []) (slots 0 0 ++ slots 1 9 ++ slots 10 8 ++ slots 0 0) (indexRow 0 1 ∷ indexRow 10 2 ∷ [])
 
 -- the keys 1 to 26 in three
 abbrev pub three : Tables
-three = resting 26 1 (liveRow (chunkNo 3) 10 9 ∷ liveRow (chunkNo 0) 0 9 ∷ emptyChunk ∷ liveRow noChunk 19 8 ∷ []) (slots 10 9 ++ slots 1 9 ++ slots 0 0 ++ slots 19 8)
+three = resting 26 1 (liveRow (chunkNo 3) 10 9 ∷ liveRow (chunkNo 0) 0 9 ∷ emptyChunk ∷ liveRow noChunk 19 8 ∷ []) (slots 10 9 ++ slots 1 9 ++ slots 0 0 ++ slots 19 8) (indexRow 0 1 ∷ indexRow 10 0 ∷ indexRow 19 3 ∷ [])

@@ -7,11 +7,11 @@ use Rattle.rules.specs.declared.Task.{Task}
 use Rattle.rules.specs.declared.Chunk.{Chunk}
 use Rattle.rules.specs.declared.Entry.{Entry}
 use Rattle.rules.specs.Words.{limits, NONE, chunkNo, entryNo, handleNo, noEntry, unused, new, retired, get, put, putIfAbsent, upsert, compute, remove, scan, scanDown, idle, toDrain, toSwap, toRelease}
-use Rattle.rules.specs.Tables.{Tables, idleTask, emptyEntry, withDirectory, withTasks, withChunks, withEntries, withValues, withMarks, withStacks, emptyStack, task, putTask, stack, putStack, chunk, putChunk, entry, putEntry, putMark}
+use Rattle.rules.specs.Tables.{Tables, idleTask, emptyEntry, withDirectory, withTasks, withChunks, withEntries, withValues, withMarks, withStacks, withIndex, emptyStack, emptyRow, task, putTask, stack, putStack, chunk, putChunk, entry, putEntry, putMark}
 use Rattle.rules.specs.Stages.{goesTo, keeps, cursorAt, withNext, withHandle, withHead}
 use Rattle.rules.specs.Rebalance.{withStatus, withNextChunk}
 use Rattle.rules.specs.Calls.{fresh}
-use Rattle.rules.specs.Unbroken.{stored, inserting, removing, mixed, scanning, draining, swapping, releasing, apart, chainOf}
+use Rattle.rules.specs.Unbroken.{stored, inserting, removing, mixed, scanning, draining, swapping, releasing, apart, chainOf, indexIs, indexRow, allIndexed}
 
 -- ---- one change
 abbrev pub chunkIs : Tables → ℕ → (Chunk → Chunk) → Tables
@@ -87,7 +87,7 @@ stackIs s n i e = putStack s n (set (stack s n) i (entryNo e))
 
 -- the directory's row: its first live chunk, its rebalance's stage, old chunk and new ones
 abbrev pub directoryIs : Tables → ℕ → ℕ → ℕ → ℕ → ℕ → Tables
-directoryIs s first n old a b = withDirectory s (record { first = chunkNo first; stage = n; old = chunkNo old; new = chunkNo a; second = chunkNo b })
+directoryIs s first n old a b = withDirectory s (record { first = chunkNo first; stage = n; old = chunkNo old; new = chunkNo a; second = chunkNo b; indexed = s .directory .indexed })
 
 -- ---- the tables and their numbers
 -- "560 handle records"
@@ -102,6 +102,7 @@ rowsMissing =
     ∷ withEntries (fresh limits) (replicate 1023 emptyEntry)
     ∷ withStacks (fresh limits) (replicate 7 (emptyStack limits))
     ∷ putStack (fresh limits) 3 (replicate 31 noEntry)
+    ∷ withIndex (fresh limits) (take 31 (fresh limits .index))
     ∷ []
 
 -- "each a value and a deleted mark"
@@ -186,7 +187,7 @@ chainNotLive = chunkIs apart 0 (nextIs 1) ∷ []
 
 -- "from key 0"
 abbrev pub chainNotFromZero : List Tables
-chainNotFromZero = chunkIs (fresh limits) 0 (minIs 1) ∷ []
+chainNotFromZero = indexIs (chunkIs (fresh limits) 0 (minIs 1)) 1 (indexRow 1 0 ∷ []) ∷ []
 
 -- "minimum keys strictly ascending": equal, and falling
 abbrev pub chainNotAscending : List Tables
@@ -302,7 +303,7 @@ stackNotHeld = stackIs scanning 3 0 0 ∷ stackIs scanning 1 0 0 ∷ stackIs mix
 -- ---- the rebalancer
 -- "A rebalancer's chunks must fit its stage": which must be known
 abbrev pub rebalanceUnknown : List Tables
-rebalanceUnknown = directoryIs swapping 0 5 0 1 NONE ∷ []
+rebalanceUnknown = directoryIs releasing 1 6 0 1 NONE ∷ []
 
 -- "A rebalancer's chunks must fit its stage": an old one from drain on, a new one from copy on
 abbrev pub chunkLacking : List Tables
@@ -335,6 +336,32 @@ otherNewOrRetired = chunkIs (fresh limits) 1 (statusIs new) ∷ chunkIs (fresh l
 -- "its old chunk and its new ones": no chunk is two of them
 abbrev pub chunkRepeated : List Tables
 chunkRepeated = directoryIs releasing 1 toRelease 0 1 1 ∷ directoryIs releasing 1 toRelease 0 0 NONE ∷ directoryIs releasing 1 toRelease 0 1 0 ∷ []
+
+-- ---- the index (document 02, E3)
+-- its count is of rows that there are
+abbrev pub countPast : List Tables
+countPast = allIndexed (chainOf 32) 33 ∷ []
+
+-- "words past the count are 0 and none"
+abbrev pub rowPastCount : List Tables
+rowPastCount = indexIs (fresh limits) 1 (indexRow 0 0 ∷ indexRow 7 NONE ∷ []) ∷ indexIs (fresh limits) 1 (indexRow 0 0 ∷ emptyRow ∷ indexRow 0 0 ∷ []) ∷ []
+
+-- "rows ascend": equal, and falling
+abbrev pub rowsNotAscending : List Tables
+rowsNotAscending = indexIs (chainOf 3) 2 (indexRow 1 1 ∷ indexRow 1 1 ∷ []) ∷ indexIs (chainOf 3) 2 (indexRow 1 1 ∷ indexRow 0 0 ∷ []) ∷ []
+
+-- "each names a live or retired chunk": past the table, none, an unused one, a new one
+abbrev pub rowNotInUse : List Tables
+rowNotInUse =
+    indexIs (fresh limits) 1 (indexRow 0 32 ∷ [])
+    ∷ indexIs (fresh limits) 1 (emptyRow ∷ [])
+    ∷ indexIs (fresh limits) 1 (indexRow 0 5 ∷ [])
+    ∷ indexIs swapping 1 (indexRow 0 1 ∷ [])
+    ∷ []
+
+-- "and has its minimum key"
+abbrev pub rowOfOtherKey : List Tables
+rowOfOtherKey = indexIs (fresh limits) 1 (indexRow 1 0 ∷ []) ∷ []
 
 unfoldable pub brokenTables : List Tables
 brokenTables =
@@ -384,3 +411,8 @@ brokenTables =
     ++ otherFrozen
     ++ otherNewOrRetired
     ++ chunkRepeated
+    ++ countPast
+    ++ rowPastCount
+    ++ rowsNotAscending
+    ++ rowNotInUse
+    ++ rowOfOtherKey

@@ -11,14 +11,14 @@ use Rattle.rules.specs.declared.Decision.{Decision}
 use Rattle.rules.specs.declared.Report.{Report}
 use Rattle.rules.specs.declared.Report.the-variants as report
 use Rattle.rules.specs.Words.{pick, _and_, _or_, chunkNo, noChunk, noEntry, noHandle, get, remove, scan, scanDown, isScan, usesFunction, live, idle}
-use Rattle.rules.specs.Tables.{Tables, idleTask, emptyChunk, emptyEntry, emptyStack, task, putTask}
+use Rattle.rules.specs.Tables.{Tables, idleTask, emptyChunk, emptyEntry, emptyStack, emptyIndex, task, putTask}
 use Rattle.rules.specs.Stages.{decide, putOwn, apply}
 use Rattle.rules.specs.Rebalance.{Outcome, gives, begins, rebalanceDoes, withStatus}
 use Rattle.rules.specs.Shape.{shape}
 
--- "A fresh directory has chunk 0 live, minimum key 0, empty, not frozen; all else unused and idle"
+-- "A fresh directory has chunk 0 live, minimum key 0, empty, not frozen; all else unused and idle"; "one row, for chunk 0" (document 02, E3)
 abbrev pub freshDirectory : Directory
-freshDirectory = record { first = chunkNo 0; stage = idle; old = noChunk; new = noChunk; second = noChunk }
+freshDirectory = record { first = chunkNo 0; stage = idle; old = noChunk; new = noChunk; second = noChunk; indexed = 1 }
 
 abbrev pub fresh : Sizes → Tables
 fresh z = record {
@@ -29,6 +29,7 @@ fresh z = record {
   values = replicate (z .handles) 0;
   marks = replicate (z .handles) 0;
   stacks = replicate (z .tasks) (emptyStack z);
+  index = set (emptyIndex z) 0 (record { min = 0; chunk = chunkNo 0 });
 }
 
 -- a call: of a task with an operation, its key, argument and function; of a task; with a key; of the rebalance

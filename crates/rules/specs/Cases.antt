@@ -1,12 +1,12 @@
--- The marked cases M1 to M12, three more, four of scans down (document 02, E1) and three of former values (E2): each is its calls from fresh tables, every report of them, and what the tables then show (document 01, "Marked cases").
+-- The marked cases M1 to M12, three more, four of scans down (document 02, E1), three of former values (E2) and one of the index (E3): each is its calls from fresh tables, every report of them, and what the tables then show (document 01, "Marked cases").
 use Prim.Native.Nat.{ℕ, zero, suc, _+_, _-_, _^_}
 use mathlib.Core.List.{List, [], _∷_, _++_}
-use lib.ListN.{length}
+use lib.ListN.{length, getD}
 use Rattle.rules.specs.declared.Sizes.{Sizes}
 use Rattle.rules.specs.declared.Report.{Report}
 use Rattle.rules.specs.declared.Report.the-variants as report
 use Rattle.rules.specs.Words.{pick, limits, chunkNo, get, put, putIfAbsent, upsert, compute, remove, scan, scanDown}
-use Rattle.rules.specs.Tables.{Tables, task, chunk, entry}
+use Rattle.rules.specs.Tables.{Tables, emptyRow, task, chunk, entry}
 use Rattle.rules.specs.Walks.{linked}
 use Rattle.rules.specs.Rebalance.{Outcome, namingFrom}
 use Rattle.rules.specs.Shape.{liveCount, shape}
@@ -66,9 +66,12 @@ putsOn k (suc n) = putsOn k n ++ ends 0 put (k + suc n) 7 0 9 report.Absent
 abbrev pub puts : ℕ → List Line
 puts n = putsOn 0 n ++ shaped ∷ []
 
--- a rebalance of the chunk that has key 1, through swap in
+-- a rebalance of the chunk that has the key, through swap in
+abbrev pub swaps : ℕ → List Line
+swaps k = reports (begin k) report.Moved ∷ reports rebalance report.Moved ∷ reports rebalance report.Moved ∷ reports rebalance report.Moved ∷ shaped ∷ []
+
 abbrev pub swapped : List Line
-swapped = reports (begin 1) report.Moved ∷ reports rebalance report.Moved ∷ reports rebalance report.Moved ∷ reports rebalance report.Moved ∷ shaped ∷ []
+swapped = swaps 1
 
 -- ---- what is shown of a chunk
 abbrev pub used : ℕ → Tables → ℕ
@@ -154,7 +157,8 @@ m9 =
     ∷ moves 0 1
     ++ swapped
     ++ finishes 1 put 5 50 0 9 report.Absent
-    ++ reports rebalance report.Waiting
+    ++ reports rebalance report.Moved
+    ∷ reports rebalance report.Waiting
     ∷ reports (step 0) report.Absent
     ∷ reports rebalance report.Finished
     ∷ shaped
@@ -235,7 +239,7 @@ falls k (suc many) = reports (step 0) (report.Pair (k + suc many) 7) ∷ falls k
 
 -- a whole rebalance of the chunk that has the key
 abbrev pub rebalances : ℕ → List Line
-rebalances k = reports (begin k) report.Moved ∷ reports rebalance report.Moved ∷ reports rebalance report.Moved ∷ reports rebalance report.Moved ∷ reports rebalance report.Finished ∷ shaped ∷ []
+rebalances k = swaps k ++ reports rebalance report.Moved ∷ reports rebalance report.Finished ∷ shaped ∷ []
 
 -- puts of the so many keys after k, all into one chunk, which a rebalance then makes two
 abbrev pub splits : ℕ → ℕ → List Line
@@ -301,7 +305,8 @@ retiredDown =
     ++ finishes 1 put 9 90 0 9 report.Absent
     ++ finishes 1 put 2 20 0 5 (report.Value 7)
     ++ finishes 1 remove 3 0 0 11 (report.Value 7)
-    ++ reports rebalance report.Waiting
+    ++ reports rebalance report.Moved
+    ∷ reports rebalance report.Waiting
     ∷ moves 0 1
     ++ reports (step 0) (report.Pair 2 20)
     ∷ reports (step 0) (report.Pair 1 7)
@@ -333,6 +338,40 @@ swappedOut sooner later =
     ++ reports (step 0) (report.Value 50)
     ∷ finishes 0 get 5 0 0 4 (report.Value 70)
 
+-- ---- the index (document 02, E3)
+-- the chunk and the minimum key of its row of that number
+abbrev pub rowChunk : ℕ → Tables → ℕ
+rowChunk n s = getD (s .index) n emptyRow .chunk .0
+
+abbrev pub rowKey : ℕ → Tables → ℕ
+rowKey n s = getD (s .index) n emptyRow .min
+
+abbrev pub indexedRows : Tables → ℕ
+indexedRows s = s .directory .indexed
+
+-- the keys 1 to 17 are in chunks 1 and 2, from 0 and 10 on, and chunk 0 takes the place of 2: until the index step the last row at or under 12 names chunk 2, which is retired, and a get of 12 locates chunk 0
+abbrev pub locatesBetween : List Line
+locatesBetween =
+    swaps 12
+    ++ shows indexedRows 2
+    ∷ shows (rowKey 1) 10
+    ∷ shows (rowChunk 1) 2
+    ∷ reports (start 0 get 12 0 0) report.Moved
+    ∷ moves 0 1
+    ++ shows (λ s. task s 0 .chunk .0) 0
+    ∷ moves 0 2
+    ++ reports (step 0) (report.Value 7)
+    ∷ reports rebalance report.Moved
+    ∷ shows indexedRows 2
+    ∷ shows (rowKey 1) 10
+    ∷ shows (rowChunk 1) 0
+    ∷ reports rebalance report.Finished
+    ∷ shaped
+    ∷ []
+
+abbrev pub between : List Line
+between = inOne ++ (inTwo ++ locatesBetween)
+
 -- ---- all of them
 abbrev pub baseCases : List (List Line)
 baseCases = m1 ∷ m2 ∷ m3 ∷ m4 ∷ m5 ∷ m6 ∷ m7 ∷ m8 ∷ m9 ∷ m12 ∷ lost ∷ functions ∷ upserts ∷ []
@@ -348,5 +387,8 @@ downCases = emptyDown ∷ retiredDown ∷ wholeDown ∷ rangeDown ∷ []
 abbrev pub formerCases : List (List Line)
 formerCases = upsertBetween ∷ swappedOut 0 2 ∷ swappedOut 4 1 ∷ []
 
+abbrev pub indexCases : List (List Line)
+indexCases = between ∷ []
+
 abbrev pub markedCases : List (List Line)
-markedCases = baseCases ++ fillCases ++ downCases ++ formerCases
+markedCases = baseCases ++ fillCases ++ downCases ++ formerCases ++ indexCases

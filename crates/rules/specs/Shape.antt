@@ -12,7 +12,8 @@ use Rattle.rules.specs.declared.Entry.{Entry}
 use Rattle.rules.specs.declared.ChunkNo.{ChunkNo}
 use Rattle.rules.specs.declared.EntryNo.{EntryNo}
 use Rattle.rules.specs.declared.HandleNo.{HandleNo}
-use Rattle.rules.specs.Words.{pick, _and_, _or_, NONE, chunkNo, entryNo, noChunk, noEntry, unused, live, new, retired, get, put, putIfAbsent, upsert, compute, remove, scan, scanDown, usesFunction, idle, toDrain, toCopy, toSwap, toRelease}
+use Rattle.rules.specs.declared.IndexRow.{IndexRow}
+use Rattle.rules.specs.Words.{pick, _and_, _or_, NONE, chunkNo, entryNo, noChunk, noEntry, unused, live, new, retired, get, put, putIfAbsent, upsert, compute, remove, scan, scanDown, usesFunction, idle, toDrain, toCopy, toSwap, toIndex, toRelease}
 use Rattle.rules.specs.Tables.{Tables, idleTask, emptyChunk, emptyEntry, task, stack, chunk, chunkAt, entry, entryAt, mark}
 use Rattle.rules.specs.Rebalance.{unusedCount}
 
@@ -40,6 +41,9 @@ allNone w = each (λ n e. isNone (e .0)) 0 w
 
 abbrev pub isEmptyEntry : Entry → Bool
 isEmptyEntry x = eqb (x .key) 0 and isNone (x .handle .0) and isNone (x .next .0)
+
+abbrev pub isEmptyRow : IndexRow → Bool
+isEmptyRow x = eqb (x .min) 0 and isNone (x .chunk .0)
 
 abbrev pub isEmptyChunk : Chunk → Bool
 isEmptyChunk x = eqb (x .status) 0 and eqb (x .frozen) 0 and eqb (x .min) 0 and isNone (x .next .0) and isNone (x .head .0) and eqb (x .used) 0
@@ -132,6 +136,19 @@ module _ (z : Sizes) where
       let here = pick (linkedFrom es c (z .entries) head e and leb k (entryAt z es c e .key)) on false in
       pick (isNone (e .0)) past here
 
+  -- the row names a live or retired chunk, and has its minimum key
+  abbrev pub namesChunk : List Chunk → IndexRow → Bool
+  namesChunk cs x =
+      ltb (x .chunk .0) (z .chunks)
+      and (eqb (chunkAt cs (x .chunk) .status) live or eqb (chunkAt cs (x .chunk) .status) retired)
+      and eqb (x .min) (chunkAt cs (x .chunk) .min)
+
+  -- so many rows, and there are as many, name chunks, their minimum keys ascending from k on; those past them are empty
+  unfoldable pub rowsAscend : List Chunk → ℕ → ℕ → List IndexRow → Bool
+  rowsAscend cs many k [] = eqb many 0
+  rowsAscend cs zero k (x ∷ l) = let on = rowsAscend cs zero k l in isEmptyRow x and on
+  rowsAscend cs (suc many) k (x ∷ l) = let on = rowsAscend cs many (x .min + 1) l in leb k (x .min) and namesChunk cs x and on
+
 module _ (z : Sizes) (s : Tables) where
   -- ---- the tables' lengths
   abbrev pub sized : Bool
@@ -143,6 +160,7 @@ module _ (z : Sizes) (s : Tables) where
       and eqb (length (s .marks)) (z .handles)
       and eqb (length (s .stacks)) (z .tasks)
       and each (λ n w. eqb (length w) (z .entries)) 0 (s .stacks)
+      and eqb (length (s .index)) (z .chunks)
 
   -- ---- "each number lies in its table or is none where none is allowed"; a mark, a status, a count lies in its range
   abbrev pub chunkNumbers : Chunk → Bool
@@ -203,8 +221,8 @@ module _ (z : Sizes) (s : Tables) where
       let isOld = eqb (d .old .0) n in
       let isNew = eqb (d .new .0) n or eqb (d .second .0) n in
       eqb (x .frozen) (pick isOld 1 0)
-      and pick isOld (eqb (x .status) (pick (eqb (d .stage) toRelease) retired live))
-      (pick isNew (eqb (x .status) (pick (eqb (d .stage) toRelease) live new))
+      and pick isOld (eqb (x .status) (pick (leb toIndex (d .stage)) retired live))
+      (pick isNew (eqb (x .status) (pick (leb toIndex (d .stage)) live new))
       (eqb (x .status) unused or eqb (x .status) live))
 
   -- no new chunks yet, and two unused ones for them
@@ -227,8 +245,12 @@ module _ (z : Sizes) (s : Tables) where
       let stages =
       pick (eqb (d .stage) idle) (isNone (d .old .0) and isNone (d .new .0) and isNone (d .second .0))
       (pick (eqb (d .stage) toDrain or eqb (d .stage) toCopy) beforeCopy
-      (pick (eqb (d .stage) toSwap or eqb (d .stage) toRelease) afterCopy false)) in
+      (pick (leb toSwap (d .stage) and leb (d .stage) toRelease) afterCopy false)) in
       stages and each (chunkFits d) 0 (s .chunks)
+
+  -- ---- the index (document 02, E3): "rows ascend, each names a live or retired chunk and has its minimum key"; words past its count are 0 and none
+  abbrev pub indexRight : Bool
+  indexRight = rowsAscend z (s .chunks) (s .directory .indexed) 0 (s .index)
 
   -- ---- all of it
   unfoldable pub shape : Bool
@@ -239,4 +261,5 @@ module _ (z : Sizes) (s : Tables) where
       let stacks = each stackRight 0 (s .tasks) in
       let rebalance = rebalanceFits in
       let chain = chained in
-      sized and marks and ltb (s .directory .first .0) (z .chunks) and chunks and chain and tasks and stacks and rebalance
+      let index = indexRight in
+      sized and marks and ltb (s .directory .first .0) (z .chunks) and chunks and chain and tasks and stacks and rebalance and index

@@ -4,6 +4,7 @@ use mathlib.Core.List.{List, []}
 use lib.ListN.{getD, set, replicate}
 use Rattle.rules.specs.declared.Sizes.{Sizes}
 use Rattle.rules.specs.declared.Directory.{Directory}
+use Rattle.rules.specs.declared.IndexRow.{IndexRow}
 use Rattle.rules.specs.declared.Task.{Task}
 use Rattle.rules.specs.declared.Chunk.{Chunk}
 use Rattle.rules.specs.declared.Entry.{Entry}
@@ -12,7 +13,7 @@ use Rattle.rules.specs.declared.EntryNo.{EntryNo}
 use Rattle.rules.specs.declared.HandleNo.{HandleNo}
 use Rattle.rules.specs.Words.{noChunk, noEntry, noHandle}
 
--- every table. The entries of chunk c stand in rows c * entries and on; a handle's record is its value and its mark, 1 where deleted; a task's stack has a word for each entry of a chunk, none past the top
+-- every table. The entries of chunk c stand in rows c * entries and on; a handle's record is its value and its mark, 1 where deleted; a task's stack has a word for each entry of a chunk, none past the top; the index has a row for each chunk, those past its count empty
 pub record Tables : Type 0 where
   pub directory : Directory
   pub tasks : List Task
@@ -21,6 +22,7 @@ pub record Tables : Type 0 where
   pub values : List ℕ
   pub marks : List ℕ
   pub stacks : List (List EntryNo)
+  pub index : List IndexRow
 
 -- ---- rows that "hold only 0 and none"
 abbrev pub idleTask : Task
@@ -32,35 +34,45 @@ emptyChunk = record { status = 0; frozen = 0; min = 0; next = noChunk; head = no
 abbrev pub emptyEntry : Entry
 emptyEntry = record { key = 0; handle = noHandle; next = noEntry }
 
+abbrev pub emptyRow : IndexRow
+emptyRow = record { min = 0; chunk = noChunk }
+
+-- an index without rows
+abbrev pub emptyIndex : Sizes → List IndexRow
+emptyIndex z = replicate (z .chunks) emptyRow
+
 -- a stack with nothing on it
 abbrev pub emptyStack : Sizes → List EntryNo
 emptyStack z = replicate (z .entries) noEntry
 
 -- ---- a table written anew
 abbrev pub withDirectory : Tables → Directory → Tables
-withDirectory s x = record { directory = x; tasks = s .tasks; chunks = s .chunks; entries = s .entries; values = s .values; marks = s .marks; stacks = s .stacks }
+withDirectory s x = record { directory = x; tasks = s .tasks; chunks = s .chunks; entries = s .entries; values = s .values; marks = s .marks; stacks = s .stacks; index = s .index }
 
 abbrev pub withTasks : Tables → List Task → Tables
-withTasks s x = record { directory = s .directory; tasks = x; chunks = s .chunks; entries = s .entries; values = s .values; marks = s .marks; stacks = s .stacks }
+withTasks s x = record { directory = s .directory; tasks = x; chunks = s .chunks; entries = s .entries; values = s .values; marks = s .marks; stacks = s .stacks; index = s .index }
 
 abbrev pub withChunks : Tables → List Chunk → Tables
-withChunks s x = record { directory = s .directory; tasks = s .tasks; chunks = x; entries = s .entries; values = s .values; marks = s .marks; stacks = s .stacks }
+withChunks s x = record { directory = s .directory; tasks = s .tasks; chunks = x; entries = s .entries; values = s .values; marks = s .marks; stacks = s .stacks; index = s .index }
 
 abbrev pub withEntries : Tables → List Entry → Tables
-withEntries s x = record { directory = s .directory; tasks = s .tasks; chunks = s .chunks; entries = x; values = s .values; marks = s .marks; stacks = s .stacks }
+withEntries s x = record { directory = s .directory; tasks = s .tasks; chunks = s .chunks; entries = x; values = s .values; marks = s .marks; stacks = s .stacks; index = s .index }
 
 abbrev pub withValues : Tables → List ℕ → Tables
-withValues s x = record { directory = s .directory; tasks = s .tasks; chunks = s .chunks; entries = s .entries; values = x; marks = s .marks; stacks = s .stacks }
+withValues s x = record { directory = s .directory; tasks = s .tasks; chunks = s .chunks; entries = s .entries; values = x; marks = s .marks; stacks = s .stacks; index = s .index }
 
 abbrev pub withMarks : Tables → List ℕ → Tables
-withMarks s x = record { directory = s .directory; tasks = s .tasks; chunks = s .chunks; entries = s .entries; values = s .values; marks = x; stacks = s .stacks }
+withMarks s x = record { directory = s .directory; tasks = s .tasks; chunks = s .chunks; entries = s .entries; values = s .values; marks = x; stacks = s .stacks; index = s .index }
 
 abbrev pub withStacks : Tables → List (List EntryNo) → Tables
-withStacks s x = record { directory = s .directory; tasks = s .tasks; chunks = s .chunks; entries = s .entries; values = s .values; marks = s .marks; stacks = x }
+withStacks s x = record { directory = s .directory; tasks = s .tasks; chunks = s .chunks; entries = s .entries; values = s .values; marks = s .marks; stacks = x; index = s .index }
+
+abbrev pub withIndex : Tables → List IndexRow → Tables
+withIndex s x = record { directory = s .directory; tasks = s .tasks; chunks = s .chunks; entries = s .entries; values = s .values; marks = s .marks; stacks = s .stacks; index = x }
 
 -- what is a task's own: the tasks' rows and their stacks
 abbrev pub withOwn : Tables → List Task → List (List EntryNo) → Tables
-withOwn s x y = record { directory = s .directory; tasks = x; chunks = s .chunks; entries = s .entries; values = s .values; marks = s .marks; stacks = y }
+withOwn s x y = record { directory = s .directory; tasks = x; chunks = s .chunks; entries = s .entries; values = s .values; marks = s .marks; stacks = y; index = s .index }
 
 -- ---- a row read and written
 abbrev pub task : Tables → ℕ → Task

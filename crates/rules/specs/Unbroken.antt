@@ -4,8 +4,11 @@ use mathlib.Core.List.{List, [], _∷_, _++_}
 use lib.Dec.{eqb}
 use lib.ListN.{replicate}
 use Rattle.rules.specs.declared.Chunk.{Chunk}
+use Rattle.rules.specs.declared.IndexRow.{IndexRow}
 use Rattle.rules.specs.Words.{pick, limits, chunkNo, noChunk, noEntry, live, new, put, upsert, compute, remove, scan, scanDown}
-use Rattle.rules.specs.Tables.{Tables, emptyChunk, withChunks, putChunk}
+use Rattle.rules.specs.Tables.{Tables, emptyChunk, emptyIndex, withDirectory, withChunks, withIndex, putChunk}
+use Rattle.rules.specs.Walks.{over, liveRows}
+use Rattle.rules.specs.Rebalance.{withIndexed}
 use Rattle.rules.specs.Calls.{fresh, does, Call}
 use Rattle.rules.specs.Calls.Call.{start, step, begin, rebalance}
 
@@ -46,7 +49,7 @@ mixed = after stored (works 0 put 0 4 ++ works 1 put 9 8 ++ works 2 compute 2 0 
 unfoldable pub scanning : Tables
 scanning = after stored (works 0 scanDown 0 3 ++ works 1 put 9 3 ++ works 2 scanDown 0 0)
 
--- a rebalance of the empty chunk 0: at drain, and after more calls at copy, swap in and release, with chunk 1 new
+-- a rebalance of the empty chunk 0: at drain, and after more calls at copy, swap in, index and release, with chunk 1 new
 unfoldable pub rebalancing : List Call → Tables
 rebalancing l = after (fresh limits) (begin 0 ∷ l)
 
@@ -56,20 +59,35 @@ draining = rebalancing []
 abbrev pub swapping : Tables
 swapping = rebalancing (rebalance ∷ rebalance ∷ [])
 
+abbrev pub indexing : Tables
+indexing = rebalancing (rebalance ∷ rebalance ∷ rebalance ∷ [])
+
 abbrev pub releasing : Tables
-releasing = rebalancing (rebalance ∷ rebalance ∷ rebalance ∷ [])
+releasing = rebalancing (rebalance ∷ rebalance ∷ rebalance ∷ rebalance ∷ [])
 
 -- a new chunk may have any minimum key until it is swapped in
 abbrev pub apart : Tables
 apart = putChunk swapping (chunkNo 1) (record { status = new; frozen = 0; min = 9; next = noChunk; head = noEntry; used = 0 })
 
 -- so many empty live chunks, from number and minimum key c on
-unfoldable pub liveRows : ℕ → ℕ → List Chunk
-liveRows c zero = []
-liveRows c (suc n) = record { status = live; frozen = 0; min = c; next = pick (eqb n 0) noChunk (chunkNo (c + 1)); head = noEntry; used = 0 } ∷ liveRows (c + 1) n
+unfoldable pub liveChunks : ℕ → ℕ → List Chunk
+liveChunks c zero = []
+liveChunks c (suc n) = record { status = live; frozen = 0; min = c; next = pick (eqb n 0) noChunk (chunkNo (c + 1)); head = noEntry; used = 0 } ∷ liveChunks (c + 1) n
 
+-- their index has a row for chunk 0 alone
 abbrev pub chainOf : ℕ → Tables
-chainOf n = withChunks (fresh limits) (liveRows 0 n ++ replicate (32 - n) emptyChunk)
+chainOf n = withChunks (fresh limits) (liveChunks 0 n ++ replicate (32 - n) emptyChunk)
+
+-- the index has these rows, and its count is that number
+abbrev pub indexIs : Tables → ℕ → List IndexRow → Tables
+indexIs s many l = withIndex (withDirectory s (withIndexed (s .directory) (s .directory .stage) many)) (over l (emptyIndex limits))
+
+abbrev pub indexRow : ℕ → ℕ → IndexRow
+indexRow k c = record { min = k; chunk = chunkNo c }
+
+-- every live chunk is indexed, and the count is that number
+abbrev pub allIndexed : Tables → ℕ → Tables
+allIndexed s many = indexIs s many (liveRows limits s)
 
 unfoldable pub soundTables : List Tables
 soundTables =
@@ -83,7 +101,12 @@ soundTables =
     ∷ rebalancing (rebalance ∷ [])
     ∷ swapping
     ∷ apart
+    ∷ indexing
     ∷ releasing
+    ∷ indexIs releasing 1 (indexRow 0 0 ∷ [])
+    ∷ indexIs (fresh limits) 0 []
     ∷ chainOf 3
+    ∷ indexIs (chainOf 3) 1 (indexRow 2 2 ∷ [])
     ∷ chainOf 31
+    ∷ allIndexed (chainOf 32) 32
     ∷ []

@@ -3,7 +3,7 @@
 use Prim.Native.Nat.{ℕ, zero, suc, _+_, _-_, _≤_, _<_}
 use mathlib.Core.Path.{_≡_}
 use mathlib.Core.Bool.{Bool, true, false, not}
-use mathlib.Core.List.{List, [], _∷_, List·Memᴰ}
+use mathlib.Core.List.{List, [], _∷_, List·Memᴰ, map}
 use lib.Dec.{eqb, ltb, leb}
 use lib.ListN.{getD, set}
 use Rattle.rules.specs.declared.Sizes.{Sizes}
@@ -13,6 +13,7 @@ use Rattle.rules.specs.declared.Entry.{Entry}
 use Rattle.rules.specs.declared.ChunkNo.{ChunkNo}
 use Rattle.rules.specs.declared.EntryNo.{EntryNo}
 use Rattle.rules.specs.declared.HandleNo.{HandleNo}
+use Rattle.rules.specs.declared.IndexRow.{IndexRow}
 use Rattle.rules.specs.Words.{pick, _and_, _or_, NONE, chunkNo, entryNo, handleNo, noChunk, noEntry, noHandle, live}
 use Rattle.rules.specs.Tables.{Tables, chunkAt, entryAt, chunk, value}
 
@@ -36,6 +37,10 @@ module _ (z : Sizes) (cs : List Chunk) where
   unfoldable pub chainFrom : ℕ → ChunkNo → List ChunkNo
   chainFrom zero c = []
   chainFrom (suc fuel) c = let on = c ∷ chainFrom fuel (chunkAt cs c .next) in pick (ltb (c .0) (z .chunks)) on []
+
+-- the index's row for a chunk
+abbrev pub rowOf : List Chunk → ChunkNo → IndexRow
+rowOf cs c = record { min = chunkAt cs c .min; chunk = c }
 
 -- "A live chunk's range runs from its minimum key up to, not including, the next live chunk's": the key lies in it
 pub record InRange (z : Sizes) (cs : List Chunk) (c : ChunkNo) (k : ℕ) : Type 0 where
@@ -86,8 +91,8 @@ top z w = getD w (depth z w - 1) noEntry
 abbrev pub off : Sizes → List EntryNo → List EntryNo
 off z w = set w (depth z w - 1) noEntry
 
--- the list laid over the words, from the bottom on
-unfoldable pub over : List EntryNo → List EntryNo → List EntryNo
+-- the list laid over the words, from the first on
+unfoldable pub over : {A : Type 0} → List A → List A → List A
 over [] w = w
 over (e ∷ l) [] = []
 over (e ∷ l) (x ∷ w) = e ∷ over l w
@@ -134,6 +139,10 @@ module _ (z : Sizes) (s : Tables) where
   -- the live chunks, in order
   abbrev pub chain : List ChunkNo
   chain = chainFrom z (s .chunks) (z .chunks) (s .directory .first)
+
+  -- the index's rows for them
+  abbrev pub liveRows : List IndexRow
+  liveRows = map (rowOf (s .chunks)) chain
 
   abbrev pub linked : ChunkNo → List EntryNo
   linked c = listFrom z (s .entries) c (z .entries) (chunk s c .head)

@@ -109,5 +109,8 @@ toCopy = 2
 abbrev pub toSwap : ℕ
 toSwap = 3
 
+abbrev pub toIndex : ℕ
+toIndex = 4
+
 abbrev pub toRelease : ℕ
-toRelease = 4
+toRelease = 5

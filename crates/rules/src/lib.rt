@@ -55,13 +55,20 @@ pub struct Task {
     pub swapped: u64,
 }
 
-// The directory's own row: its first live chunk, and the rebalance under way.
+// The directory's own row: its first live chunk, the rebalance under way, and how many rows of the index are in use.
 pub struct Directory {
     pub first: ChunkNo,
     pub stage: u64,
     pub old: ChunkNo,
     pub new: ChunkNo,
     pub second: ChunkNo,
+    pub indexed: u64,
+}
+
+// A row of the index (document 02, E3): a chunk and its minimum key.
+pub struct IndexRow {
+    pub min: u64,
+    pub chunk: ChunkNo,
 }
 
 // What a stage changes outside its task's own row.
@@ -129,7 +136,7 @@ impl Directory {
         }
     }
 
-    // A fresh directory's own row: chunk 0 is the first live one, and no rebalance is under way.
+    // A fresh directory's own row: chunk 0 is the first live one, no rebalance is under way, and one row is indexed.
     pub fn fresh() -> Directory
         ensures { λ r. ⌜ r ≡ freshDirectory ⌝ }
     {
@@ -139,6 +146,7 @@ impl Directory {
             old: ChunkNo(NONE),
             new: ChunkNo(NONE),
             second: ChunkNo(NONE),
+            indexed: 1,
         }
     }
 }

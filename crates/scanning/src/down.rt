@@ -6,7 +6,6 @@ use outcome::tells;
 use rules::Chunk;
 use rules::ChunkNo;
 use rules::Decision;
-use rules::Directory;
 use rules::Entry;
 use rules::EntryNo;
 use rules::HandleNo;
@@ -18,13 +17,13 @@ use rules::Write;
 ghost use mathlib.Core.Path.{_≡_};
 ghost use mathlib.Core.List.{List};
 ghost use Prim.Native.Nat.{ℕ, _<_};
-ghost use lib.ListN.{length};
 ghost use Rattle.rules.specs.declared.Write.the-variants as write;
 ghost use Rattle.rules.specs.Words.{noEntry, noHandle};
 ghost use Rattle.rules.specs.Walks.{locate};
 ghost use Rattle.rules.specs.Stages.{goesTo, moves, takesOff, scansDown};
 ghost use Rattle.rows.specs.Rows.{tables, asLent, Lends};
-ghost use Rattle.outcome.specs.Lengths.{Chunks, Entries};
+ghost use Rattle.locating.specs.Charted.{Charted};
+ghost use Rattle.outcome.specs.Lengths.{Entries};
 
 // One entry is off the stack: a pair where it names an undeleted handle.
 pub fn take_off(
@@ -50,12 +49,10 @@ pub fn take_off(
 
 // The stack is to be filled from the live chunk that has the key.
 pub fn fill_from(z: Sizes, directory: &[u64], chunks: &[u64], t: Task, k: u64) -> Decision
-    requires { ⌜ (length (now directory) ≡ 5) × Chunks z (now chunks) ⌝ }
+    requires { ⌜ Charted z (now directory) (now chunks) ⌝ }
     ensures { λ r. ⌜ ((ts es vs ms : List ℕ) → r ≡ moves (goesTo t 23 (locate z (tables z (now (directory .entry)) ts (now (chunks .entry)) es vs ms) k) noEntry noHandle noHandle 0 0) write.Nothing) ⌝ }
 {
-    let d = rows::directory_row(directory);
-    let first = d.first;
-    let c = walks::locate(z, chunks, first, k);
+    let c = locating::locate(z, directory, chunks, k);
     moves_to(
         t,
         23,
@@ -81,7 +78,7 @@ pub fn scan_down(
     n: usize,
     t: Task,
 ) -> Decision
-    requires { ⌜ Lends z directory tasks chunks entries values marks × (n < z .tasks) ⌝ }
+    requires { ⌜ Lends z directory tasks chunks entries values marks × Charted z (now directory) (now chunks) × (n < z .tasks) ⌝ }
     ensures { λ r. ⌜ r ≡ scansDown z (asLent z directory tasks chunks entries values marks) t n ⌝ }
 {
     let depth = walks::stack_depth(z, tasks, n);

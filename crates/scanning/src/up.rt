@@ -4,7 +4,6 @@ use outcome::moves_cursor;
 use rules::Chunk;
 use rules::ChunkNo;
 use rules::Decision;
-use rules::Directory;
 use rules::Entry;
 use rules::EntryNo;
 use rules::HandleNo;
@@ -17,13 +16,13 @@ ghost use mathlib.Core.Path.{_≡_};
 ghost use mathlib.Core.Bool.{Bool};
 ghost use mathlib.Core.List.{List};
 ghost use Prim.Native.Nat.{ℕ, _*_, _<_};
-ghost use lib.ListN.{length};
 ghost use lib.Dec.{ltb, leb};
 ghost use Rattle.rules.specs.Words.{_and_};
 ghost use Rattle.rules.specs.Tables.{chunkAt};
 ghost use Rattle.rules.specs.Walks.{undeleted, locate, firstPresent};
 ghost use Rattle.rules.specs.Stages.{scans};
-ghost use Rattle.rows.specs.Rows.{directoryOf, tables, chunkRows};
+ghost use Rattle.rows.specs.Rows.{tables, chunkRows};
+ghost use Rattle.locating.specs.Charted.{Charted};
 ghost use Rattle.outcome.specs.Lengths.{Chunks, Entries};
 ghost use Rattle.scanning.specs.Walked.{Walked};
 
@@ -70,7 +69,7 @@ pub fn gives(z: Sizes, marks: &[u64], x: Entry, from: u64, to: u64) -> bool
     is_undeleted(z, marks, x.handle)
 }
 
-// Along the live chunks to the one that has the cursor, then along its list to the first present key in range.
+// From where the index leads along the live chunks to the one that has the cursor, then along its list to the first present key in range.
 pub fn walk(
     z: Sizes,
     directory: &[u64],
@@ -80,11 +79,10 @@ pub fn walk(
     from: u64,
     to: u64,
 ) -> Seen
-    requires { ⌜ (length (now directory) ≡ 5) × Chunks z (now chunks) × Entries z (now entries) × (directoryOf (now directory) .first .0 < z .chunks) ⌝ }
+    requires { ⌜ Charted z (now directory) (now chunks) × Entries z (now entries) ⌝ }
     ensures { λ r. ⌜ ((ts vs : List ℕ) → Walked z (tables z (now (directory .entry)) ts (now (chunks .entry)) (now (entries .entry)) vs (now (marks .entry))) from to (r .chunk) (r .entry)) ⌝ }
 {
-    let d = rows::directory_row(directory);
-    let mut at = d.first;
+    let mut at = locating::start(z, directory, chunks, from);
     let mut left = z.chunks;
     let mut found = EntryNo(NONE);
     'walk: loop {
@@ -135,7 +133,7 @@ pub fn scan(
     marks: &[u64],
     t: Task,
 ) -> Decision
-    requires { ⌜ (length (now directory) ≡ 5) × Chunks z (now chunks) × Entries z (now entries) × (directoryOf (now directory) .first .0 < z .chunks) ⌝ }
+    requires { ⌜ Charted z (now directory) (now chunks) × Entries z (now entries) ⌝ }
     ensures { λ r. ⌜ ((ts : List ℕ) → r ≡ scans z (tables z (now (directory .entry)) ts (now (chunks .entry)) (now (entries .entry)) (now (values .entry)) (now (marks .entry))) t) ⌝ }
 {
     if t.argument <= t.key {

@@ -15,6 +15,7 @@ pub use tables::chunk_line;
 pub use tables::directory_lines;
 pub use tables::entry_line;
 pub use tables::handle_line;
+pub use tables::index_line;
 pub use tables::stack_begins;
 pub use tables::stack_ends;
 pub use tables::stack_entry;

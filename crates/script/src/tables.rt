@@ -3,6 +3,7 @@ use crate::print;
 use rules::Chunk;
 use rules::Directory;
 use rules::Entry;
+use rules::IndexRow;
 use rules::Task;
 
 // The new chunks of a rebalance, as far as there are any.
@@ -24,6 +25,9 @@ fn rebalance_stage(out: &mut [u8], at: usize, stage: u64) -> usize {
     if stage == 3 {
         return print::text(out, at, b"rebalance swap-in");
     }
+    if stage == 4 {
+        return print::text(out, at, b"rebalance index");
+    }
     print::text(out, at, b"rebalance release")
 }
 
@@ -43,6 +47,12 @@ fn rebalance_line(out: &mut [u8], at: usize, d: Directory) -> usize {
 pub fn directory_lines(out: &mut [u8], at: usize, d: Directory) -> usize {
     let n = print::last(out, at, b"directory first ", d.first.0);
     rebalance_line(out, n, d)
+}
+
+pub fn index_line(out: &mut [u8], at: usize, i: u64, x: IndexRow) -> usize {
+    let n = print::field(out, at, b"index ", i);
+    let n = print::field(out, n, b" min ", x.min);
+    print::last(out, n, b" chunk ", x.chunk.0)
 }
 
 fn status(out: &mut [u8], at: usize, s: u64) -> usize {

@@ -7,7 +7,6 @@ use outcome::moves_to;
 use rules::Chunk;
 use rules::ChunkNo;
 use rules::Decision;
-use rules::Directory;
 use rules::Entry;
 use rules::EntryNo;
 use rules::HandleNo;
@@ -18,21 +17,19 @@ use rules::Write;
 ghost use mathlib.Core.Path.{_≡_};
 ghost use mathlib.Core.List.{List};
 ghost use Prim.Native.Nat.{ℕ, _*_, _<_};
-ghost use lib.ListN.{length};
 ghost use Rattle.rules.specs.Tables.{chunkAt};
 ghost use Rattle.rules.specs.Walks.{findFrom};
 ghost use Rattle.rules.specs.Stages.{locates, finds, reads, findsAgain, readsAgain};
 ghost use Rattle.rows.specs.Rows.{tables, chunkRows, entryRows};
+ghost use Rattle.locating.specs.Charted.{Charted};
 ghost use Rattle.outcome.specs.Lengths.{Chunks, Entries, Holds};
 
 // 1 and 16 locate
 pub fn locate(z: Sizes, directory: &[u64], chunks: &[u64], t: Task) -> Decision
-    requires { ⌜ (length (now directory) ≡ 5) × Chunks z (now chunks) × (t .stage < 22) ⌝ }
+    requires { ⌜ Charted z (now directory) (now chunks) × (t .stage < 22) ⌝ }
     ensures { λ r. ⌜ ((ts es vs ms : List ℕ) → r ≡ locates z (tables z (now (directory .entry)) ts (now (chunks .entry)) es vs ms) t) ⌝ }
 {
-    let d = rows::directory_row(directory);
-    let first = d.first;
-    let c = walks::locate(z, chunks, first, t.key);
+    let c = locating::locate(z, directory, chunks, t.key);
     moves_to(
         t,
         t.stage + 1,

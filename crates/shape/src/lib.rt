@@ -43,7 +43,10 @@ pub fn has_shape(
     if !stacked::stacks_right(z, tasks, chunks, entries) {
         return false;
     }
-    rebalance_fits(z, chunks, d)
+    if !rebalance_fits(z, chunks, d) {
+        return false;
+    }
+    indexed::index_right(z, directory, chunks)
 }
 
 // Each mark is 0 or 1.

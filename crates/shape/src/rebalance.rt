@@ -23,7 +23,7 @@ fn one_of(test: bool, a: u64, b: u64) -> u64
 fn chunk_fits(z: Sizes, d: Directory, n: usize, x: Chunk) -> bool
     ensures { λ r. ⌜ r ≡ chunkFits z (bare z) d n x ⌝ }
 {
-    let swapped = d.stage == 4;
+    let swapped = 4 <= d.stage;
     if d.old.0 as usize == n {
         return (x.frozen == 1) & (x.status == one_of(swapped, 3, 1));
     }
@@ -64,7 +64,7 @@ fn stage_fits(z: Sizes, d: Directory, two: bool) -> bool
     if (stage == 1) | (stage == 2) {
         return none & old & two;
     }
-    if (stage == 3) | (stage == 4) {
+    if (3 <= stage) & (stage <= 5) {
         let apart = (d.new.0 != d.second.0) & (d.old.0 != d.new.0) & (d.old.0 != d.second.0);
         return old & ((d.new.0 as usize) < z.chunks) & second & apart;
     }

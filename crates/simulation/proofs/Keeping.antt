@@ -14,10 +14,10 @@ use Rattle.rules.specs.declared.ChunkNo.{ChunkNo}
 use Rattle.rules.specs.declared.EntryNo.{EntryNo}
 use Rattle.rules.specs.declared.HandleNo.{HandleNo}
 use Rattle.rules.specs.declared.Decision.{Decision}
-use Rattle.rules.specs.Words.{_and_, _or_, noChunk, usesFunction, isScan, idle, toDrain, toCopy, toSwap, toRelease}
+use Rattle.rules.specs.Words.{_and_, _or_, usesFunction, isScan, idle, toDrain, toCopy, toSwap, toIndex, toRelease}
 use Rattle.rules.specs.Tables.{Tables, chunk, entryAt, entry, task, withDirectory}
 use Rattle.rules.specs.Stages
-use Rattle.rules.specs.Rebalance.{Outcome, unusedCount, publishedOn, heldChunk, begins, drains, swapsIn, releases, rebalanceDoes}
+use Rattle.rules.specs.Rebalance.{Outcome, unusedCount, publishedOn, heldChunk, begins, drains, swapsIn, indexes, releases, rebalanceDoes, atRest}
 use Rattle.rules.specs.Calls.{Call, starts, steps, does}
 use Rattle.rules.specs.Calls.Call.{start, step, begin, rebalance}
 use Rattle.laws.proofs.Tests.{picked}
@@ -134,8 +134,14 @@ module _ (z : Sizes) (lim : Limited z) (s : Tables) (kept : Kept z s) (held : He
       late : _≡_ {A = ℕ} 4 3 → ⊥
       late e = omega arith
 
+  index-copied : CopiedIn (indexes z s .tables)
+  index-copied e = absurd (late e)
+    where
+      late : _≡_ {A = ℕ} 5 3 → ⊥
+      late e = omega arith
+
   release-copied : CopiedIn (releases z s .tables)
-  release-copied = picked (λ (o : Outcome). CopiedIn (o .tables)) (heldChunk (s .tasks) (s .directory .old)) (λ _. copied) (λ _. rw (clears-is z (s .directory .old) s (z .entries) (withDirectory s (record { first = s .directory .first; stage = idle; old = noChunk; new = noChunk; second = noChunk }))) (λ e. absurd (late e)))
+  release-copied = picked (λ (o : Outcome). CopiedIn (o .tables)) (heldChunk (s .tasks) (s .directory .old)) (λ _. copied) (λ _. rw (clears-is z (s .directory .old) s (z .entries) (withDirectory s (atRest (s .directory)))) (λ e. absurd (late e)))
     where
       late : _≡_ {A = ℕ} 0 3 → ⊥
       late e = omega arith
@@ -149,7 +155,8 @@ module _ (z : Sizes) (lim : Limited z) (s : Tables) (kept : Kept z s) (held : He
       picked Q (eqb (s .directory .stage) toDrain) (λ _. drain-copied)
       (λ _. picked Q (eqb (s .directory .stage) toCopy) (λ e _. copy-names z lim s kept un (eqb-true _ _ e) .0)
       (λ _. picked Q (eqb (s .directory .stage) toSwap) (λ _. swap-copied)
-      (λ _. picked Q (eqb (s .directory .stage) toRelease) (λ _. release-copied) (λ _. copied))))
+      (λ _. picked Q (eqb (s .directory .stage) toIndex) (λ _. index-copied)
+      (λ _. picked Q (eqb (s .directory .stage) toRelease) (λ _. release-copied) (λ _. copied)))))
     where
       Q : (Sizes → Tables → Outcome) → Type 0
       Q f = CopiedIn (f z s .tables)

@@ -14,10 +14,11 @@ use Rattle.rules.specs.declared.Chunk.{Chunk}
 use Rattle.rules.specs.declared.Entry.{Entry}
 use Rattle.rules.specs.declared.ChunkNo.{ChunkNo}
 use Rattle.rules.specs.declared.EntryNo.{EntryNo}
-use Rattle.rules.specs.Words.{noChunk, live, retired, idle, toDrain, toCopy, toSwap, toRelease}
+use Rattle.rules.specs.declared.IndexRow.{IndexRow}
+use Rattle.rules.specs.Words.{live, retired, idle, toDrain, toCopy, toSwap, toIndex, toRelease}
 use Rattle.rules.specs.Tables.{Tables, emptyChunk, chunkAt, chunk, entryAt, withDirectory}
 use Rattle.rules.specs.Walks.{locate}
-use Rattle.rules.specs.Rebalance.{Outcome, unusedCount, publishedOn, heldChunk, frozenOf, withNextChunk, begins, drains, swapsIn, releases, rebalanceDoes}
+use Rattle.rules.specs.Rebalance.{Outcome, unusedCount, publishedOn, heldChunk, frozenOf, withNextChunk, begins, drains, swapsIn, indexes, releases, rebalanceDoes, atRest}
 use Rattle.rules.specs.Calls.{does}
 use Rattle.rules.specs.Calls.Call.{rebalance}
 use Rattle.laws.proofs.Tests.{picked}
@@ -41,8 +42,8 @@ use Rattle.simulation.proofs.Copied.{named-like, SameLive, copy-names}
 
 module _ (z : Sizes) (lim : Limited z) (s : Tables) (kept : Kept z s) (own : OwnedBy z s) (held : Held z s) (un : UnlinkedNone z (s .chunks) (s .entries)) (copied : CopiedThen z (s .directory) (s .entries)) where
   -- every chunk's status is as it was
-  same-live : (cs : List Chunk) (d : Directory) → ((c : ChunkNo) → chunkAt cs c .status ≡ chunk s c .status) → SameLive z s (record { directory = d; tasks = s .tasks; chunks = cs; entries = s .entries; values = s .values; marks = s .marks; stacks = s .stacks })
-  same-live cs d same =
+  same-live : (cs : List Chunk) (d : Directory) (x : List IndexRow) → ((c : ChunkNo) → chunkAt cs c .status ≡ chunk s c .status) → SameLive z s (record { directory = d; tasks = s .tasks; chunks = cs; entries = s .entries; values = s .values; marks = s .marks; stacks = s .stacks; index = x })
+  same-live cs d x same =
       record {
         to = λ h k i v. record { chunk = v .chunk; numbered = v .numbered; isLive = same (v .chunk) ∙ v .isLive; named = v .named };
         from = λ h k i v. record { chunk = v .chunk; numbered = v .numbered; isLive = sym (same (v .chunk)) ∙ v .isLive; named = v .named };
@@ -52,17 +53,17 @@ module _ (z : Sizes) (lim : Limited z) (s : Tables) (kept : Kept z s) (own : Own
   Moves x = SameLive z s x × Sourced z (s .entries) (x .entries)
 
   unmoved : Moves s
-  unmoved = (same-live (s .chunks) (s .directory) (λ c. refl), sourced-same z (s .entries))
+  unmoved = (same-live (s .chunks) (s .directory) (s .index) (λ c. refl), sourced-same z (s .entries))
 
   pub begin-moves : (k : ℕ) → Moves (begins z s k .tables)
   begin-moves k =
       picked (λ (o : Outcome). Moves (o .tables)) (eqb (s .directory .stage) idle)
       (λ _. picked (λ (o : Outcome). Moves (o .tables)) (ltb (unusedCount (s .chunks)) 2) (λ _. unmoved)
-      (λ _. (same-live (set (s .chunks) (locate z s k .0) (frozenOf (chunk s (locate z s k)))) _ (λ c. chunk-either (s .chunks) (locate z s k) (frozenOf (chunk s (locate z s k))) c (λ y. y .status ≡ chunk s c .status) (λ p. ap (λ (c : ChunkNo). chunk s c .status) (sym p)) refl), sourced-same z (s .entries))))
+      (λ _. (same-live (set (s .chunks) (locate z s k .0) (frozenOf (chunk s (locate z s k)))) _ _ (λ c. chunk-either (s .chunks) (locate z s k) (frozenOf (chunk s (locate z s k))) c (λ y. y .status ≡ chunk s c .status) (λ p. ap (λ (c : ChunkNo). chunk s c .status) (sym p)) refl), sourced-same z (s .entries))))
       (λ _. unmoved)
 
   drain-moves : Moves (drains z s .tables)
-  drain-moves = picked (λ (o : Outcome). Moves (o .tables)) (publishedOn (s .tasks) (s .directory .old)) (λ _. unmoved) (λ _. (same-live (s .chunks) _ (λ c. refl), sourced-same z (s .entries)))
+  drain-moves = picked (λ (o : Outcome). Moves (o .tables)) (publishedOn (s .tasks) (s .directory .old)) (λ _. unmoved) (λ _. (same-live (s .chunks) _ _ (λ c. refl), sourced-same z (s .entries)))
 
   -- ---- swap in
   module _ (stage : s .directory .stage ≡ toSwap) where
@@ -130,6 +131,9 @@ module _ (z : Sizes) (lim : Limited z) (s : Tables) (kept : Kept z s) (own : Own
     swap-moves : Moves s′
     swap-moves = rw same-entries (record { to = swap-to; from = swap-from }, sourced-same z (s .entries))
 
+  index-moves : Moves (indexes z s .tables)
+  index-moves = (same-live (s .chunks) _ _ (λ c. refl), sourced-same z (s .entries))
+
   -- ---- release
   release-moves : s .directory .stage ≡ toRelease → Moves (releases z s .tables)
   release-moves stage = picked (λ (o : Outcome). Moves (o .tables)) (heldChunk (s .tasks) (s .directory .old)) (λ _. unmoved) (λ _. rw (clears-is z gone s (z .entries) (withDirectory s to)) (record { to = λ h k i v. on v; from = λ h k i v. back v }, cleared-sourced z lim (s .entries) (kept .tables .entries-sized) gone gone-in))
@@ -138,7 +142,7 @@ module _ (z : Sizes) (lim : Limited z) (s : Tables) (kept : Kept z s) (own : Own
       gone = s .directory .old
 
       to : Directory
-      to = record { first = s .directory .first; stage = idle; old = noChunk; new = noChunk; second = noChunk }
+      to = atRest (s .directory)
 
       gone-in : gone .0 < z .chunks
       gone-in = kept .tables .rebalancing .old (omega arith)
@@ -179,7 +183,8 @@ module _ (z : Sizes) (lim : Limited z) (s : Tables) (kept : Kept z s) (own : Own
       picked Q (eqb (s .directory .stage) toDrain) (λ _. drain-moves)
       (λ _. picked Q (eqb (s .directory .stage) toCopy) (λ e. (copy-names z lim s kept un (eqb-true _ _ e) .1, copy-sourced z lim s kept own (eqb-true _ _ e) .0))
       (λ _. picked Q (eqb (s .directory .stage) toSwap) (λ e. swap-moves (eqb-true _ _ e))
-      (λ _. picked Q (eqb (s .directory .stage) toRelease) (λ e. release-moves (eqb-true _ _ e)) (λ _. unmoved))))
+      (λ _. picked Q (eqb (s .directory .stage) toIndex) (λ _. index-moves)
+      (λ _. picked Q (eqb (s .directory .stage) toRelease) (λ e. release-moves (eqb-true _ _ e)) (λ _. unmoved)))))
     where
       Q : (Sizes → Tables → Outcome) → Type 0
       Q f = Moves (f z s .tables)

@@ -7,7 +7,8 @@ use rules::Task;
 ghost use mathlib.Core.Path.{_≡_};
 ghost use Prim.Native.Nat.{_<_};
 ghost use Rattle.rules.specs.Stages.{decide};
-ghost use Rattle.rows.specs.Rows.{directoryOf, asLent, Lends};
+ghost use Rattle.rows.specs.Rows.{asLent, Lends};
+ghost use Rattle.locating.specs.Charted.{Charted};
 ghost use Rattle.outcome.specs.Lengths.{Held};
 
 // The step looks at each of the 24 stage numbers, for task number `n`.
@@ -22,7 +23,7 @@ pub fn decide(
     n: usize,
     t: Task,
 ) -> Decision
-    requires { ⌜ Lends z directory tasks chunks entries values marks × Held z t × (t .stage < 24) × (directoryOf (now directory) .first .0 < z .chunks) × (n < z .tasks) ⌝ }
+    requires { ⌜ Lends z directory tasks chunks entries values marks × Held z t × (t .stage < 24) × Charted z (now directory) (now chunks) × (n < z .tasks) ⌝ }
     ensures { λ r. ⌜ r ≡ decide z (asLent z directory tasks chunks entries values marks) n t ⌝ }
 {
     let stage = t.stage;

@@ -8,16 +8,16 @@ use mathlib.Core.Option.{Option, some, Option·none-ne-some}
 use native.Mathlib.Nat.{zero-lt-suc, mod-lt, div-add-mod', div-lt-iff-lt-mul}
 use native.Mathlib.Decide.{ℕ-discrete, decLt}
 use native.Mathlib.Omega.{arith}
-use lib.Dec.{eqb, ltb}
+use lib.Dec.{eqb, ltb, leb}
 use lib.ListN.{length, getD, length-append, length-map}
-use borrow.Author.Tests.{eqb-true, eqb-false, eq-eqb, ltb-true}
+use borrow.Author.Tests.{eqb-true, leb-false, eq-eqb, ltb-true}
 use Rattle.rules.specs.declared.Sizes.{Sizes}
 use Rattle.rules.specs.declared.Directory.{Directory}
 use Rattle.rules.specs.declared.Task.{Task}
 use Rattle.rules.specs.declared.Chunk.{Chunk}
 use Rattle.rules.specs.declared.Entry.{Entry}
 use Rattle.rules.specs.declared.ChunkNo.{ChunkNo}
-use Rattle.rules.specs.Words.{pick, _or_, NONE, chunkNo, entryNo, unused, live, new, toSwap, toRelease, handleNo}
+use Rattle.rules.specs.Words.{pick, _or_, NONE, chunkNo, entryNo, unused, live, new, toSwap, toIndex, handleNo}
 use Rattle.rules.specs.Tables.{Tables, idleTask, emptyEntry, chunk, entry}
 use Rattle.rules.specs.Walks.{locate, find, linked, undeleted, namedIn, heldIn, free}
 use Rattle.rules.specs.Map.{Pair, pair}
@@ -141,11 +141,11 @@ module _ (z : Sizes) (lim : Limited z) (s : Tables) (kept : Kept z s) where
     d = s .directory
 
     -- a new chunk is live after swap in, and names what the old one names before
-    new-one : (c : ChunkNo) → chunk s c .status ≡ pick (eqb (s .directory .stage) toRelease) live new → toSwap ≤ s .directory .stage → (s .directory .stage ≡ toSwap → Old) → (chunk s c .status ≡ live) ⊎ Old
-    new-one c is from copy = by-test (eqb (s .directory .stage) toRelease) (λ e. inl (rw e at is)) (λ e. inr (copy (at-swap (eqb-false _ _ e))))
+    new-one : (c : ChunkNo) → chunk s c .status ≡ pick (leb toIndex (s .directory .stage)) live new → toSwap ≤ s .directory .stage → (s .directory .stage ≡ toSwap → Old) → (chunk s c .status ≡ live) ⊎ Old
+    new-one c is from copy = by-test (leb toIndex (s .directory .stage)) (λ e. inl (rw e at is)) (λ e. inr (copy (at-swap (leb-false _ _ e))))
       where
-        at-swap : s .directory .stage ≢ toRelease → s .directory .stage ≡ toSwap
-        at-swap ne = omega (arith, from, kept .tables .rebalancing .known)
+        at-swap : s .directory .stage < toIndex → s .directory .stage ≡ toSwap
+        at-swap b = omega (arith, from)
 
     -- a chunk that names a handle is live, or the old one names it
     live-or-old : (c : ChunkNo) → c .0 < z .chunks → NamedIn z (s .entries) c h k → (chunk s c .status ≡ live) ⊎ Old

@@ -6,7 +6,8 @@ ghost use mathlib.Core.Path.{_≡_};
 ghost use Prim.Native.Nat.{_<_};
 ghost use Rattle.rules.specs.Stages.{decide};
 ghost use Rattle.rules.specs.Rebalance.{gives};
-ghost use Rattle.rows.specs.Rows.{directoryOf, asLent, asLeft, Lends};
+ghost use Rattle.rows.specs.Rows.{asLent, asLeft, Lends};
+ghost use Rattle.locating.specs.Charted.{Charted};
 ghost use Rattle.outcome.specs.Lengths.{Held};
 ghost use Rattle.turn.specs.Turns.{writes};
 
@@ -28,7 +29,7 @@ pub fn move_on(
     n: usize,
     t: Task,
 ) -> Turned
-    requires { ⌜ Lends z directory tasks chunks entries values marks × Held z t × (t .stage < 24) × (directoryOf (now directory) .first .0 < z .chunks) × (n < z .tasks) ⌝ }
+    requires { ⌜ Lends z directory tasks chunks entries values marks × Held z t × (t .stage < 24) × Charted z (now directory) (now chunks) × (n < z .tasks) ⌝ }
     ensures { λ r. ⌜ (r .task ≡ decide z (asLent z directory tasks chunks entries values marks) n t .task) × (gives (asLeft z directory tasks chunks entries values marks) (r .report) ≡ writes z (asLent z directory tasks chunks entries values marks) n t) ⌝ }
 {
     let x = stages::decide(z, directory, tasks, chunks, entries, values, marks, n, t);
@@ -51,7 +52,7 @@ pub fn step(
     n: usize,
     t: &mut Task,
 ) -> Report
-    requires { ⌜ Lends z directory tasks chunks entries values marks × Held z (now t) × (now t .stage < 24) × (directoryOf (now directory) .first .0 < z .chunks) × (n < z .tasks) ⌝ }
+    requires { ⌜ Lends z directory tasks chunks entries values marks × Held z (now t) × (now t .stage < 24) × Charted z (now directory) (now chunks) × (n < z .tasks) ⌝ }
     ensures { λ r. ⌜ (now (t .exit) ≡ decide z (asLent z directory tasks chunks entries values marks) n (now (t .entry)) .task) × (gives (asLeft z directory tasks chunks entries values marks) r ≡ writes z (asLent z directory tasks chunks entries values marks) n (now (t .entry))) ⌝ }
 {
     let x = move_on(z, directory, tasks, chunks, entries, values, marks, n, *t);
@@ -71,7 +72,7 @@ pub fn lend(
     n: usize,
     t: Task,
 ) -> Turned
-    requires { ⌜ Lends z directory tasks chunks entries values marks × Held z t × (t .stage < 24) × (directoryOf (now directory) .first .0 < z .chunks) × (n < z .tasks) ⌝ }
+    requires { ⌜ Lends z directory tasks chunks entries values marks × Held z t × (t .stage < 24) × Charted z (now directory) (now chunks) × (n < z .tasks) ⌝ }
     ensures { λ r. ⌜ (r .task ≡ decide z (asLent z directory tasks chunks entries values marks) n t .task) × (gives (asLeft z directory tasks chunks entries values marks) (r .report) ≡ writes z (asLent z directory tasks chunks entries values marks) n t) ⌝ }
 {
     let mut own = t;

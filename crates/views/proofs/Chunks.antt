@@ -15,6 +15,7 @@ use Rattle.rules.specs.declared.ChunkNo.{ChunkNo}
 use Rattle.rules.specs.Words.{NONE, chunkNo, live}
 use Rattle.rules.specs.Tables.{chunkAt}
 use Rattle.rules.specs.Walks.{locateFrom, beforeFrom, chainFrom, InRange}
+use Rattle.rules.specs.Map.{Ascends}
 use Rattle.rules.specs.Shape.{chainCount}
 use Rattle.laws.specs.Counts.{Every, Apart}
 use Rattle.laws.proofs.Tests.{picked, by-test}
@@ -30,6 +31,11 @@ module _ (z : Sizes) (cs : List Chunk) where
   unfolding Chain
   chain-above k c [] h = λ x m. absurd (List·Memᴰ·not-nil m)
   chain-above k c (y ∷ l) h = λ x m. ⊎-elim (λ p. rw p (h .3)) (λ n. omega (arith, h .3, chain-above _ _ l (h .4) x n)) (List·Memᴰ·cases-cons m)
+
+  pub chain-ascends : (k : ℕ) (c : ChunkNo) (l : List ChunkNo) → Chain z cs k c l → Ascends (λ x. chunkAt cs x .min) k l
+  unfolding Chain Ascends
+  chain-ascends k c [] h = tt
+  chain-ascends k c (y ∷ l) h = (h .3, chain-ascends _ _ l (h .4))
 
   -- minimum keys ascend, so no chunk stands twice
   pub chain-apart : (k : ℕ) (c : ChunkNo) (l : List ChunkNo) → Chain z cs k c l → Apart (λ x. x .0) l

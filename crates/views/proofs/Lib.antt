@@ -4,3 +4,4 @@ pub mod Chunks
 pub mod Copies
 pub mod Stacks
 pub mod Naming
+pub mod Chained

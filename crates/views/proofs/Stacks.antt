@@ -86,7 +86,7 @@ all-none zero i = refl
 all-none (suc m) zero = refl
 all-none (suc m) (suc i) = all-none m i
 
-pub over-length : (l w : List EntryNo) → length (over l w) ≡ length w
+pub over-length : {A : Type 0} (l w : List A) → length (over l w) ≡ length w
 unfolding over
 over-length [] w = refl
 over-length (e ∷ l) [] = refl

@@ -1,9 +1,9 @@
 -- A chunk's list and the chain of live chunks, as relations between a number and a list of rows.
 use Prim.Native.Nat.{ℕ, _+_, _≤_, _<_}
 use mathlib.Core.Path.{_≡_}
-use mathlib.Core.List.{List, [], _∷_, _++_}
+use mathlib.Core.List.{List, [], _∷_, _++_, List·Memᴰ}
 use lib.Dec.{eqb, ltb}
-use lib.ListN.{take}
+use lib.ListN.{length, take}
 use Rattle.rules.specs.declared.Sizes.{Sizes}
 use Rattle.rules.specs.declared.Chunk.{Chunk}
 use Rattle.rules.specs.declared.Entry.{Entry}
@@ -12,6 +12,7 @@ use Rattle.rules.specs.declared.EntryNo.{EntryNo}
 use Rattle.rules.specs.Words.{pick, NONE, live}
 use Rattle.rules.specs.Tables.{Tables, chunkAt, entryAt, stack}
 use Rattle.rules.specs.Walks.{depth}
+use Rattle.rules.specs.Shape.{liveCount}
 
 -- the list from e on is of these entries, used ones, keys ascending from k on
 module _ (z : Sizes) (es : List Entry) (c : ChunkNo) (used : ℕ) where
@@ -42,6 +43,14 @@ module _ (z : Sizes) (cs : List Chunk) where
   unfoldable pub Chain : ℕ → ChunkNo → List ChunkNo → Type 0
   Chain k c [] = c .0 ≡ NONE
   Chain k c (x ∷ l) = (c ≡ x) × (x .0 < z .chunks) × (chunkAt cs x .status ≡ live) × (k ≤ chunkAt cs x .min) × Chain (chunkAt cs x .min + 1) (chunkAt cs x .next) l
+
+-- the chain from the first live chunk, from key 0 on, has every live chunk
+pub record Chained (z : Sizes) (first : ChunkNo) (cs : List Chunk) : Type 0 where
+  pub rest : List ChunkNo
+  pub chain : Chain z cs 0 first (first ∷ rest)
+  pub from : chunkAt cs first .min ≡ 0
+  pub counted : length (first ∷ rest) ≡ liveCount cs
+  pub every : (c : ChunkNo) → c .0 < z .chunks → chunkAt cs c .status ≡ live → List·Memᴰ c (first ∷ rest)
 
 -- the chain with new ones in the place of one
 unfoldable pub replaced : ChunkNo → List ChunkNo → List ChunkNo → List ChunkNo

@@ -1,7 +1,7 @@
 //! Damage to lent words, and calls on what is left.
 use crate::stacks::{change, scan_down, WAYS};
-use crate::{Call, Chance};
-use model::words::{Words, NONE, TASK_ROWS};
+use crate::{indexes, Call, Chance};
+use model::words::{Words, INDEX, INDEX_WORDS, NONE, TASK_ROWS};
 use model::{CHUNKS, ENTRIES, HANDLES, TASKS};
 
 /// A number that a damaged word may hold, at times one that its table could have.
@@ -44,16 +44,20 @@ pub fn damage(r: &mut Chance, was: u64) -> u64 {
 
 /// A word of a state: of any row, or at times of one that is in use.
 pub fn place(r: &mut Chance, w: &Words) -> (usize, usize) {
-    let table = r.of(&[0, 1, 1, 1, 2, 2, 3, 3, 3, 4, 5]);
+    let table = r.of(&[0, 0, 1, 1, 1, 2, 2, 3, 3, 3, 4, 5]);
     let length = w[table].len();
     if length == 0 {
         return place(r, w);
     }
-    let width = [5, 11, 6, 3, 1, 1][table];
+    if table == 0 && r.once_in(2) {
+        return (table, r.below(length.min(INDEX)));
+    }
+    let width = [1, 11, 6, 3, 1, 1][table];
     for _ in 0..6 {
         let i = r.below(length);
         let row = &w[table][i - i % width..];
         let used = match table {
+            0 => i < INDEX || ((i - INDEX) / INDEX_WORDS) as u64 <= w[0][5],
             1 if i >= TASK_ROWS => w[1][(i - TASK_ROWS) / ENTRIES * 11] == 23,
             1 | 2 => row[0] != 0,
             3 => row[0] != 0 || row.get(1).is_some_and(|&h| h != NONE),
@@ -68,7 +72,7 @@ pub fn place(r: &mut Chance, w: &Words) -> (usize, usize) {
 
 /// Words that keep the shape more often than others do: values, keys, arguments, marks, stages, and numbers of handles and chunks.
 pub fn gentle(r: &mut Chance, w: &mut Words) {
-    match r.below(15) {
+    match r.below(17) {
         0 => w[4][r.below(HANDLES)] = r.word(),
         1 => w[5][r.below(HANDLES)] ^= 1,
         2 => {
@@ -132,6 +136,10 @@ pub fn gentle(r: &mut Chance, w: &mut Words) {
             let (n, way) = (r.below(TASKS), r.below(WAYS));
             change(r, w, n, way);
         }
+        14 | 15 => {
+            let way = r.below(indexes::WAYS.len());
+            indexes::change(r, w, way);
+        }
         _ => {
             let at = r.below(CHUNKS * ENTRIES) * 3;
             if w[3][at] != 0 {
@@ -150,7 +158,7 @@ fn waits_to_link(r: &mut Chance, w: &mut Words) {
 }
 
 /// Empty live chunks at the chain's end, where there are unused ones.
-fn lengthen(w: &mut Words, count: usize) {
+pub fn lengthen(w: &mut Words, count: usize) {
     let mut last = w[0][0].min(31) as usize;
     for _ in 0..CHUNKS {
         let next = w[2][last * 6 + 3] as usize;

@@ -5,6 +5,7 @@ use std::io::{Read, Write};
 use std::process::{Child, Command, Stdio};
 
 pub mod damage;
+pub mod indexes;
 pub mod runs;
 pub mod stacks;
 pub mod states;

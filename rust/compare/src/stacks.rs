@@ -10,11 +10,11 @@ fn at(n: usize, e: usize) -> usize {
 }
 
 /// The words of task n's stack up to the first none.
-fn entries(w: &Words, n: usize) -> Vec<u64> {
+pub fn entries(w: &Words, n: usize) -> Vec<u64> {
     w[1][at(n, 0)..at(n + 1, 0)].iter().copied().take_while(|&e| e != NONE).collect()
 }
 
-fn write(w: &mut Words, n: usize, stack: &[u64]) {
+pub fn write(w: &mut Words, n: usize, stack: &[u64]) {
     for e in 0..ENTRIES {
         w[1][at(n, e)] = stack.get(e).copied().unwrap_or(NONE);
     }
@@ -28,7 +28,7 @@ fn linked(w: &Words, c: usize) -> Vec<u64> {
 }
 
 /// A chunk in use, at times the rebalance's old one.
-fn in_use(r: &mut Chance, w: &Words) -> usize {
+pub fn in_use(r: &mut Chance, w: &Words) -> usize {
     let old = w[0][2] as usize;
     if old < CHUNKS && r.once_in(2) {
         return old;

@@ -130,7 +130,7 @@ pub fn heavy() -> Tables {
     let mut t = long_lists(30, 559);
     let old = *all_naming(&t).last().unwrap();
     t.begin(last_key(&t, old));
-    for _ in 0..3 {
+    for _ in 0..4 {
         assert_eq!(t.rebalance(), Report::MovedOn);
     }
     let Rebalance::Release(_, new, Some(second)) = t.rebalance else {
@@ -208,7 +208,8 @@ fn scan_down(t: &mut Tables, n: u64, steps: usize) {
 }
 
 /// Seven tasks scan down from a list of 32: one holds nothing, one has all 32 on its stack, others fewer or none, and one is at the
-/// chunk below. Then the same with that list's chunk retired, and with some of its keys removed and put anew.
+/// chunk below. Then the same with that list's chunk retired and still indexed, and, not indexed, with some of its keys removed and put
+/// anew.
 pub fn scans_down() -> [Tables; 3] {
     let (mut t, c) = last_full();
     for (n, steps) in (1..).zip([0, 1, 2, 17, 32, 33, 34]) {
@@ -219,6 +220,7 @@ pub fn scans_down() -> [Tables; 3] {
     let told = [retired.begin(last_key(&t, c)), retired.rebalance(), retired.rebalance(), retired.rebalance()];
     assert_eq!(told, [Report::MovedOn; 4]);
     let mut changed = retired.clone();
+    assert_eq!(changed.rebalance(), Report::MovedOn);
     let keys: Vec<u64> = t.chunks[c].linked().map(|(_, e)| e.key).collect();
     keys.iter().step_by(3).for_each(|&k| {
         operate(&mut changed, 6, k, 0);
@@ -227,6 +229,26 @@ pub fn scans_down() -> [Tables; 3] {
         operate(&mut changed, 2, k, 7);
     });
     [t, retired, changed]
+}
+
+/// So many live chunks at rest, and with a rebalance of the first, of a middle or of the last at swap in, index and release.
+pub fn amid_rebalances() -> Vec<Tables> {
+    let mut states = vec![];
+    for count in [1, 2, 7, 30] {
+        let t = with_chunks(count);
+        let chain = chain(&t);
+        for c in [chain[0], chain[count / 2], chain[count - 1]] {
+            let mut t = t.clone();
+            let told = [t.begin(t.chunks[c].min), t.rebalance(), t.rebalance()];
+            assert_eq!(told, [Report::MovedOn; 3]);
+            for _ in 0..3 {
+                states.push(t.clone());
+                assert_ne!(t.rebalance(), Report::Waiting);
+            }
+        }
+        states.push(t);
+    }
+    states
 }
 
 /// Task 0 at the stage, with the last key of the last chunk or the one after it.
@@ -320,7 +342,7 @@ pub fn all_stages(steps: &Tables, rebalances: &Tables) -> Vec<Case> {
     let key = last_key(&t, chain(&t)[chain(&t).len() - 1]);
     cases.push(case("begin", t.clone(), Call::Begin(key)));
     assert_eq!(t.begin(key), Report::MovedOn);
-    for name in ["drain", "copy", "swap in", "release"] {
+    for name in ["drain", "copy", "swap in", "index", "release"] {
         cases.push(case(name, t.clone(), Call::Rebalance));
         assert!(matches!(t.rebalance(), Report::MovedOn | Report::Released), "{name}");
     }

@@ -135,6 +135,7 @@ impl Tables {
             Rebalance::Drain(old) => self.drain(old),
             Rebalance::Copy(old) => self.copy(old),
             Rebalance::SwapIn(old, new, second) => self.swap_in(old, new, second),
+            Rebalance::Index(old, new, second) => self.make_index(old, new, second),
             Rebalance::Release(old, ..) => self.release(old),
         }
     }

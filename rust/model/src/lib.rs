@@ -1,13 +1,16 @@
-//! A second implementation of document 01 and of requests E1 and E2, in plain Rust with typed structs, written from those documents and
-//! the header alone.
+//! A second implementation of document 01 and of requests E1 to E3, in plain Rust with typed structs, written from those documents and
+//! the header, apart from the rules and the code. Its locating is the plain walk along the chain: no answer of it goes by the index.
 
 mod calls;
+mod index;
 mod rebalance;
 mod shape;
 mod stages;
 #[cfg(test)]
 mod tests;
 pub mod words;
+
+pub use index::{Index, IndexRow};
 
 pub const TASKS: usize = 8;
 pub const CHUNKS: usize = 32;
@@ -131,6 +134,7 @@ pub enum Rebalance {
     Drain(ChunkNo),
     Copy(ChunkNo),
     SwapIn(ChunkNo, ChunkNo, Option<ChunkNo>),
+    Index(ChunkNo, ChunkNo, Option<ChunkNo>),
     Release(ChunkNo, ChunkNo, Option<ChunkNo>),
 }
 
@@ -139,6 +143,7 @@ pub enum Rebalance {
 pub struct Tables {
     pub first: ChunkNo,
     pub rebalance: Rebalance,
+    pub index: Index,
     pub tasks: [Option<Task>; TASKS],
     pub chunks: [Chunk; CHUNKS],
     pub handles: [Handle; HANDLES],
@@ -359,6 +364,7 @@ impl Tables {
         Tables {
             first: 0,
             rebalance: Rebalance::Idle,
+            index: Index::from_iter([IndexRow { min: 0, chunk: 0 }]),
             tasks: [None; TASKS],
             chunks,
             handles: [Handle::default(); HANDLES],

@@ -88,7 +88,7 @@ impl Tables {
             self.chunks[number].status = Status::Live;
         }
         self.chunks[old].status = Status::Retired;
-        self.rebalance = Rebalance::Release(old, new, second);
+        self.rebalance = Rebalance::Index(old, new, second);
         Report::MovedOn
     }
 

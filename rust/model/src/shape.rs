@@ -191,14 +191,16 @@ impl Rebalance {
             Rebalance::Idle => [None; 3],
             Rebalance::Drain(old) | Rebalance::Copy(old) => [with(old, Status::Live), None, None],
             Rebalance::SwapIn(old, new, second) => [with(old, Status::Live), with(new, Status::New), second.map(|second| (second, Status::New))],
-            Rebalance::Release(old, new, second) => [with(old, Status::Retired), with(new, Status::Live), second.map(|second| (second, Status::Live))],
+            Rebalance::Index(old, new, second) | Rebalance::Release(old, new, second) => {
+                [with(old, Status::Retired), with(new, Status::Live), second.map(|second| (second, Status::Live))]
+            }
         }
     }
 
     /// The two new chunks are not one (docs/DECISIONS.md, "May the second new chunk repeat the first").
     fn news_differ(self) -> bool {
         match self {
-            Rebalance::SwapIn(_, new, second) | Rebalance::Release(_, new, second) => second != Some(new),
+            Rebalance::SwapIn(_, new, second) | Rebalance::Index(_, new, second) | Rebalance::Release(_, new, second) => second != Some(new),
             _ => true,
         }
     }
@@ -220,7 +222,8 @@ impl Tables {
     /// The tables have the shape.
     pub fn has_shape(&self) -> bool {
         let Some(linked) = self.linked_bits() else { return false };
-        self.chain_fits() && self.rebalance_fits() && self.tasks.iter().flatten().all(|task| self.task_fits(task, &linked))
+        let tasks_fit = || self.tasks.iter().flatten().all(|task| self.task_fits(task, &linked));
+        self.chain_fits() && self.rebalance_fits() && tasks_fit() && self.index_fits()
     }
 
     /// The linked slots of each chunk; none where a chunk by itself fails the shape.

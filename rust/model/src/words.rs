@@ -2,15 +2,29 @@
 use crate::*;
 
 pub const NONE: u64 = u64::MAX;
+/// The words of the directory's row; the index's rows stand after it.
+pub const INDEX: usize = 6;
+/// A row of the index is a minimum key and a chunk.
+pub const INDEX_WORDS: usize = 2;
 /// Every task's row; its stack stands after all of them.
 pub const TASK_ROWS: usize = TASKS * 11;
 /// Directory, tasks, chunks, entries, values, marks.
-pub const LENGTHS: [usize; 6] = [5, TASK_ROWS + TASKS * ENTRIES, CHUNKS * 6, CHUNKS * ENTRIES * 3, HANDLES, HANDLES];
+pub const LENGTHS: [usize; 6] = [
+    INDEX + CHUNKS * INDEX_WORDS,
+    TASK_ROWS + TASKS * ENTRIES,
+    CHUNKS * 6,
+    CHUNKS * ENTRIES * 3,
+    HANDLES,
+    HANDLES,
+];
 
 pub type Words = [Vec<u64>; 6];
 
 /// The row of an idle task.
 const IDLE: [u64; 11] = [0, 0, 0, 0, 0, NONE, NONE, NONE, NONE, 0, 0];
+
+/// A row past the index's count.
+const NO_ROW: [u64; INDEX_WORDS] = [0, NONE];
 
 /// Words of the right lengths.
 pub fn blank() -> Words {
@@ -67,7 +81,8 @@ impl Rebalance {
             1 if none_new => Some(Rebalance::Drain(number(old)?)),
             2 if none_new => Some(Rebalance::Copy(number(old)?)),
             3 => Some(Rebalance::SwapIn(number(old)?, number(new)?, number_or_none(second)?)),
-            4 => Some(Rebalance::Release(number(old)?, number(new)?, number_or_none(second)?)),
+            4 => Some(Rebalance::Index(number(old)?, number(new)?, number_or_none(second)?)),
+            5 => Some(Rebalance::Release(number(old)?, number(new)?, number_or_none(second)?)),
             _ => None,
         }
     }
@@ -78,8 +93,30 @@ impl Rebalance {
             Rebalance::Drain(old) => [1, old as u64, NONE, NONE],
             Rebalance::Copy(old) => [2, old as u64, NONE, NONE],
             Rebalance::SwapIn(old, new, second) => [3, old as u64, new as u64, word(second)],
-            Rebalance::Release(old, new, second) => [4, old as u64, new as u64, word(second)],
+            Rebalance::Index(old, new, second) => [4, old as u64, new as u64, word(second)],
+            Rebalance::Release(old, new, second) => [5, old as u64, new as u64, word(second)],
         }
+    }
+}
+
+impl Index {
+    /// The index of its count and its words: so many rows of a chunk, and nothing past them.
+    fn from_words(count: u64, words: &[u64]) -> Option<Index> {
+        let length = usize::try_from(count).ok()?.checked_mul(INDEX_WORDS)?;
+        let (on, past) = words.split_at_checked(length)?;
+        if rows(past).any(|row| row != NO_ROW) {
+            return None;
+        }
+        let row = |[min, chunk]: [u64; INDEX_WORDS]| Some(IndexRow { min, chunk: number(chunk)? });
+        rows(on).map(row).collect()
+    }
+
+    fn to_words(self) -> [[u64; INDEX_WORDS]; CHUNKS] {
+        let mut words = [NO_ROW; CHUNKS];
+        for (words, row) in words.iter_mut().zip(self.rows()) {
+            *words = [row.min, row.chunk as u64];
+        }
+        words
     }
 }
 
@@ -189,10 +226,12 @@ impl Tables {
             return None;
         }
         let [directory, tasks, chunks, entries, values, marks] = w;
-        let [first, stage, old, new, second] = <[u64; 5]>::try_from(directory.as_slice()).ok()?;
+        let (directory_row, index) = directory.split_at(INDEX);
+        let [first, stage, old, new, second, indexed] = <[u64; INDEX]>::try_from(directory_row).ok()?;
         let mut tables = Tables {
             first: number(first)?,
             rebalance: Rebalance::from_words([stage, old, new, second])?,
+            index: Index::from_words(indexed, index)?,
             ..Tables::fresh()
         };
         let (task_rows, stacks) = tasks.split_at(TASK_ROWS);
@@ -218,7 +257,10 @@ impl Tables {
     pub fn to_words(&self, w: &mut Words) {
         let [directory, tasks, chunks, entries, values, marks] = w;
         let [stage, old, new, second] = self.rebalance.to_words();
-        write(directory, std::iter::once([self.first as u64, stage, old, new, second]));
+        let (directory_row, index) = directory.split_at_mut(INDEX);
+        let indexed = self.index.rows().len() as u64;
+        write(directory_row, std::iter::once([self.first as u64, stage, old, new, second, indexed]));
+        write(index, self.index.to_words().into_iter());
         let (task_rows, stacks) = tasks.split_at_mut(TASK_ROWS);
         write(task_rows, self.tasks.iter().map(|task| task.map_or(IDLE, Task::to_words)));
         write(

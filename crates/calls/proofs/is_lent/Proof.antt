@@ -4,6 +4,12 @@ use borrow.Author.Needs.{needs}
 use Rattle.calls.proofs.is_lent.Statement.{statement}
 use Rattle.calls.proofs.is_lent.Tie as tie
 
+mul-if1 : tie.Need-mul-if1
+mul-if1 c = search needs
+
+add-if1 : tie.Need-add-if1
+add-if1 c = search needs
+
 returns : tie.Need-returns
 returns c = rw (ne-eqb _ _ (c .if1 .taken))
 
@@ -44,6 +50,8 @@ pub is-lent-spec : {M : Type 1} → statement M
 is-lent-spec =
     tie.close
     (tie.spec
+    mul-if1
+    add-if1
     returns
     mul-if2
     mul-if2-2

@@ -8,11 +8,8 @@ use borrow.Author.Needs.{needs}
 use Rattle.making.proofs.make.Statement.{statement}
 use Rattle.making.proofs.make.Tie as tie
 
-fresh-requires : tie.Need-fresh-requires
-fresh-requires c κs = search needs
-
-put-directory-row-requires : tie.Need-put-directory-row-requires
-put-directory-row-requires c κs = search needs
+clear-directory-requires : tie.Need-clear-directory-requires
+clear-directory-requires c κs = search needs
 
 clear-tasks-requires : tie.Need-clear-tasks-requires
 clear-tasks-requires c κs = search needs
@@ -27,10 +24,10 @@ put-chunk-requires : tie.Need-put-chunk-requires
 put-chunk-requires c κs = search needs
 
 mul-empty-entries : tie.Need-mul-empty-entries
-mul-empty-entries c = omega (arith, c .before .before .before .before .before .before .before .before .before .before .before .before .before .before .before .before .before .before .before .before .before .before .before .before .before .pre .entries, c .before .before .before .before .before .before .before .before .before .before .before .before .before .before .before .before .before .before .before .before .before .before .before .before .before .good)
+mul-empty-entries c = let start = c .before .before .before .before .before .before .before .before .before .before .before .before .before .before .before .before .before .before .before .before .before .before .before .before in omega (arith, start .pre .entries, start .good)
 
 empty-entries-requires : tie.Need-empty-entries-requires
-empty-entries-requires c κs = omega (arith, c .before .before .before .before .before .before .before .before .before .before .before .before .before .before .before .before .before .before .before .before .before .before .before .before .before .before .pre .entries)
+empty-entries-requires c κs = omega (arith, c .before .before .before .before .before .before .before .before .before .before .before .before .before .before .before .before .before .before .before .before .before .before .before .before .before .pre .entries)
 
 fill-requires : tie.Need-fill-requires
 fill-requires c κs = search needs
@@ -39,7 +36,7 @@ fill-requires-2 : tie.Need-fill-requires-2
 fill-requires-2 c κs = search needs
 
 same-length : tie.Need-same-length
-same-length c = c .before .before .before .before .before .before .before .before .before .before .before .before .before .before .before .before .before .before .before .before .before .before .before .before .before .before .before .before .put-directory-row .kept .0
+same-length c = c .before .before .before .before .before .before .before .before .before .before .before .before .before .before .before .before .before .before .before .before .before .before .before .before .before .before .before .before .clear-directory .kept .1 .0
 
 same-length-2 : tie.Need-same-length-2
 same-length-2 c = search needs
@@ -57,14 +54,21 @@ same-length-6 : tie.Need-same-length-6
 same-length-6 c = search needs
 
 returns : tie.Need-returns
-returns c = let the-empty-entries = c .before .before .before .before .before .before .before .before .before .before .empty-entries in let the-clear-tasks = c .before .before .before .before .before .before .before .before .before .before .before .before .before .before .before .before .before .before .before .before .before .before .before .before .clear-tasks in let the-pre = c .before .before .before .before .before .before .before .before .before .before .before .before .before .before .before .before .before .before .before .before .before .before .before .before .before .before .before .before .before .before .before .before .before .before .before .before .before .pre in let the-put-chunk = c .before .before .before .before .before .before .before .before .before .before .before .before .before .before .before .put-chunk in let the-put-directory-row = c .before .before .before .before .before .before .before .before .before .before .before .before .before .before .before .before .before .before .before .before .before .before .before .before .before .before .before .before .put-directory-row in let the-fill = c .before .before .before .before .before .before .fill in let the-fill2 = c .before .before .fill2 in made (c .before .before .before .before .before .before .before .before .before .before .before .before .before .before .before .before .before .before .before .before .before .before .before .before .before .before .before .before .before .before .before .before .before .before .before .before .before .args .z) (the-put-directory-row .last .0) (the-clear-tasks .last .1 .0) (the-put-chunk .last .1 .0) (the-empty-entries .last .1 .0) (the-fill .last .1 .1 .0) (the-fill2 .last .1 .1 .0) (the-put-directory-row .ensures ∙ c .before .before .before .before .before .before .before .before .before .before .before .before .before .before .before .before .before .before .before .before .before .before .before .before .before .before .before .before .before .fresh .ensures) (the-clear-tasks .ensures .0) (the-clear-tasks .ensures .1) (the-put-chunk .ensures ∙ rw (c .before .before .before .before .before .before .before .before .before .before .before .before .before .before .before .before .before .before .before .before .empty-chunks .ensures, c .before .before .before .before .before .before .before .before .before .before .before .before .before .before .before .before .before .empty-chunk .ensures)) (the-empty-entries .ensures) (the-fill .ensures ∙ ap (λ (n : ℕ). replicate n 0) (sub-zero _ ∙ the-pre .values)) (the-fill2 .ensures ∙ ap (λ (n : ℕ). replicate n 0) (sub-zero _ ∙ the-pre .marks))
+returns c =
+    let start = c .before .before .before .before .before .before .before .before .before .before .before .before .before .before .before .before .before .before .before .before .before .before .before .before .before .before .before .before .before .before .before .before .before .before .before .before in
+    let the-clear-directory = c .before .before .before .before .before .before .before .before .before .before .before .before .before .before .before .before .before .before .before .before .before .before .before .before .before .before .before .before .clear-directory in
+    let the-clear-tasks = c .before .before .before .before .before .before .before .before .before .before .before .before .before .before .before .before .before .before .before .before .before .before .before .before .clear-tasks in
+    let the-put-chunk = c .before .before .before .before .before .before .before .before .before .before .before .before .before .before .before .put-chunk in
+    let the-empty-entries = c .before .before .before .before .before .before .before .before .before .before .empty-entries in
+    let the-fill = c .before .before .before .before .before .before .fill in
+    let the-fill2 = c .before .before .fill2 in
+    made (start .args .z) (the-clear-directory .last .1 .0) (the-clear-tasks .last .1 .0) (the-put-chunk .last .1 .0) (the-empty-entries .last .1 .0) (the-fill .last .1 .1 .0) (the-fill2 .last .1 .1 .0) (the-clear-directory .ensures .0) (the-clear-directory .ensures .1) (the-clear-tasks .ensures .0) (the-clear-tasks .ensures .1) (the-put-chunk .ensures ∙ rw (c .before .before .before .before .before .before .before .before .before .before .before .before .before .before .before .before .before .before .before .before .empty-chunks .ensures, c .before .before .before .before .before .before .before .before .before .before .before .before .before .before .before .before .before .empty-chunk .ensures)) (the-empty-entries .ensures) (the-fill .ensures ∙ ap (λ (n : ℕ). replicate n 0) (sub-zero _ ∙ start .pre .values)) (the-fill2 .ensures ∙ ap (λ (n : ℕ). replicate n 0) (sub-zero _ ∙ start .pre .marks))
 
 pub make-spec : {M : Type 1} → statement M
 make-spec =
     tie.close
     (tie.spec
-    fresh-requires
-    put-directory-row-requires
+    clear-directory-requires
     clear-tasks-requires
     empty-chunks-requires
     empty-chunk-requires

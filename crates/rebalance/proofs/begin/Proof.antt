@@ -37,10 +37,10 @@ frozen-requires : tie.Need-frozen-requires
 frozen-requires c κs = search needs
 
 put-chunk-requires : tie.Need-put-chunk-requires
-put-chunk-requires c κs = omega (arith, c .before .before .before .before .before .before .before .before .before .before .before .before .before .before .before .before .pre)
+put-chunk-requires c κs = c .before .before .before .before .before .before .before .before .before .before .before .before .before .before .before .before .before .pre .chunks
 
 put-stage-requires : tie.Need-put-stage-requires
-put-stage-requires c κs = omega (arith, c .before .before .before .before .before .before .before .before .before .before .before .before .before .before .before .before .before .before .before .before .pre)
+put-stage-requires c κs = omega (arith, c .before .before .before .before .before .before .before .before .before .before .before .before .before .before .before .before .before .before .before .before .before .pre)
 
 same-length-4 : tie.Need-same-length-4
 same-length-4 c = search needs
@@ -49,7 +49,7 @@ same-length-5 : tie.Need-same-length-5
 same-length-5 c = search needs
 
 returns-3 : tie.Need-returns-3
-returns-3 c = let the-args = c .before .before .before .before .before .before .before .before .before .before .before .before .before .before .before .before .before .before .before .before .before .before .before .args in λ ts es vs ms. begin-froze (the-args .z) (tables (the-args .z) (the-args .directory .now) ts (the-args .chunks .now) es vs ms) _ (c .before .before .before .before .before .before .before .before .before .before .before .before .before .before .before .before .before .before .before .directory-row .ensures) _ _ (c .before .before .before .before .before .before .before .before .before .before .before .before .before .before .before .before .before .if1 .left) (c .before .before .before .before .before .before .before .before .before .before .before .before .before .before .before .unused-count .ensures .0) (c .before .before .before .before .before .before .before .before .before .before .before .before .before .before .if2 .left) _ (c .before .before .before .before .before .before .before .before .before .before .before .locate .ensures) _ (c .before .before .before .before .before .before .before .before .before .chunk-at .ensures) _ (c .before .before .put-stage .ensures) _ (rw (← c .before .before .before .before .before .before .before .frozen .ensures) (c .before .before .before .before .before .before .put-chunk .ensures))
+returns-3 c = let the-args = c .before .before .before .before .before .before .before .before .before .before .before .before .before .before .before .before .before .before .before .before .before .before .before .before .args in λ ts es vs ms. begin-froze (the-args .z) (tables (the-args .z) (the-args .directory .now) ts (the-args .chunks .now) es vs ms) _ (c .before .before .before .before .before .before .before .before .before .before .before .before .before .before .before .before .before .before .before .before .directory-row .ensures) _ _ (c .before .before .before .before .before .before .before .before .before .before .before .before .before .before .before .before .before .before .if1 .left) (c .before .before .before .before .before .before .before .before .before .before .before .before .before .before .before .before .unused-count .ensures .0) (c .before .before .before .before .before .before .before .before .before .before .before .before .before .before .before .if2 .left) _ (c .before .before .before .before .before .before .before .before .before .before .before .locate .ensures ts es vs ms) _ (c .before .before .before .before .before .before .before .before .before .chunk-at .ensures) _ (c .before .before .put-stage .ensures .row) _ (c .before .before .put-stage .ensures .index (the-args .z .chunks)) _ (rw (← c .before .before .before .before .before .before .before .frozen .ensures) (c .before .before .before .before .before .before .put-chunk .ensures))
 
 pub begin-spec : {M : Type 1} → statement M
 begin-spec =

@@ -36,7 +36,7 @@ same-length-3 : tie.Need-same-length-3
 same-length-3 c = search needs
 
 returns : tie.Need-returns
-returns c = let the-args = c .before .before .before .before .before .before .before .before .before .before .before .before .before .before .before .before .before .before .before .before .before .before .before .before .before .before .before .args in let the-make = c .before .before .before .before .before .before .before .before .make in λ ts vs ms. copy-one (the-args .z) (tables (the-args .z) (the-args .directory .now) ts (the-args .chunks .now) (the-args .entries .now) vs ms) _ (c .before .before .before .before .before .before .before .before .before .before .before .before .before .before .before .before .before .before .before .before .before .before .directory-row .ensures) _ (c .before .before .before .before .before .before .before .before .before .before .before .before .before .before .before .before .before .before .chunk-at .ensures) _ (c .before .before .before .before .before .before .before .before .before .before .before .before .before .before .before .naming-count .ensures .0) _ (c .before .before .before .before .before .before .before .before .before .before .before .before .before .unused-from .ensures) (c .before .before .before .before .before .before .before .before .before .before .before .if1 .taken) _ (the-make .ensures .0 .rows) _ (the-make .ensures .1) _ (c .before .before .put-stage .ensures)
+returns c = let the-args = c .before .before .before .before .before .before .before .before .before .before .before .before .before .before .before .before .before .before .before .before .before .before .before .before .before .before .before .args in let the-make = c .before .before .before .before .before .before .before .before .make in λ ts vs ms. copy-one (the-args .z) (tables (the-args .z) (the-args .directory .now) ts (the-args .chunks .now) (the-args .entries .now) vs ms) _ (c .before .before .before .before .before .before .before .before .before .before .before .before .before .before .before .before .before .before .before .before .before .before .directory-row .ensures) _ (c .before .before .before .before .before .before .before .before .before .before .before .before .before .before .before .before .before .before .chunk-at .ensures) _ (c .before .before .before .before .before .before .before .before .before .before .before .before .before .before .before .naming-count .ensures .0) _ (c .before .before .before .before .before .before .before .before .before .before .before .before .before .unused-from .ensures) (c .before .before .before .before .before .before .before .before .before .before .before .if1 .taken) _ (the-make .ensures .0 .rows) _ (the-make .ensures .1) _ (c .before .before .put-stage .ensures .row) _ (c .before .before .put-stage .ensures .index (the-args .z .chunks))
 
 add-unused-from : tie.Need-add-unused-from
 add-unused-from c = let the-args = c .before .before .before .before .before .before .before .before .before .before .before .before .before .before .before .before .before .args in let the-directory-row = c .before .before .before .before .before .before .before .before .before .before .before .before .directory-row in let the-pre = c .before .before .before .before .before .before .before .before .before .before .before .before .before .before .before .before .before .pre in let the-unused-from = c .before .before .before .unused-from in omega (arith, (can-first (the-args .z) (the-directory-row .result) (chunkRows (the-args .z .chunks) (the-args .chunks .now)) (length-rows _ _ _) (rw (the-directory-row .ensures) (the-pre .1)) (the-unused-from .result) (the-unused-from .ensures)) .within, the-pre .0 .1, c .before .before .before .before .before .before .before .before .before .before .before .before .before .before .before .before .before .good)
@@ -60,7 +60,7 @@ same-length-6 : tie.Need-same-length-6
 same-length-6 c = search needs
 
 returns-2 : tie.Need-returns-2
-returns-2 c = let the-args = c .before .before .before .before .before .before .before .before .before .before .before .before .before .before .before .before .before .before .before .before .before .before .before .before .before .before .before .before .before .args in λ ts vs ms. copy-two (the-args .z) (tables (the-args .z) (the-args .directory .now) ts (the-args .chunks .now) (the-args .entries .now) vs ms) _ (c .before .before .before .before .before .before .before .before .before .before .before .before .before .before .before .before .before .before .before .before .before .before .before .before .directory-row .ensures) _ (c .before .before .before .before .before .before .before .before .before .before .before .before .before .before .before .before .before .before .before .before .chunk-at .ensures) _ (c .before .before .before .before .before .before .before .before .before .before .before .before .before .before .before .before .before .naming-count .ensures .0) _ (c .before .before .before .before .before .before .before .before .before .before .before .before .before .before .before .unused-from .ensures) (c .before .before .before .before .before .before .before .before .before .before .before .before .before .if1 .left) _ (c .before .before .before .before .before .before .before .before .before .before .before .unused-from2 .ensures) _ _ (c .before .before .before .before .before .before .before .before .make-two .ensures) _ (c .before .before .put-stage2 .ensures)
+returns-2 c = let the-args = c .before .before .before .before .before .before .before .before .before .before .before .before .before .before .before .before .before .before .before .before .before .before .before .before .before .before .before .before .before .args in λ ts vs ms. copy-two (the-args .z) (tables (the-args .z) (the-args .directory .now) ts (the-args .chunks .now) (the-args .entries .now) vs ms) _ (c .before .before .before .before .before .before .before .before .before .before .before .before .before .before .before .before .before .before .before .before .before .before .before .before .directory-row .ensures) _ (c .before .before .before .before .before .before .before .before .before .before .before .before .before .before .before .before .before .before .before .before .chunk-at .ensures) _ (c .before .before .before .before .before .before .before .before .before .before .before .before .before .before .before .before .before .naming-count .ensures .0) _ (c .before .before .before .before .before .before .before .before .before .before .before .before .before .before .before .unused-from .ensures) (c .before .before .before .before .before .before .before .before .before .before .before .before .before .if1 .left) _ (c .before .before .before .before .before .before .before .before .before .before .before .unused-from2 .ensures) _ _ (c .before .before .before .before .before .before .before .before .make-two .ensures) _ (c .before .before .put-stage2 .ensures .row) _ (c .before .before .put-stage2 .ensures .index (the-args .z .chunks))
 
 pub copy-spec : {M : Type 1} → statement M
 copy-spec =

@@ -25,7 +25,7 @@ same-length-2 : tie.Need-same-length-2
 same-length-2 c = search needs
 
 returns-2 : tie.Need-returns-2
-returns-2 c = let the-args = c .before .before .before .before .before .before .before .before .before .before .before .before .args in λ cs es vs ms. drain-goes (the-args .z) (tables (the-args .z) (the-args .directory .now) (the-args .tasks .now) cs es vs ms) _ (c .before .before .before .before .before .before .before .before .directory-row .ensures) (sym (c .before .before .before .before .before .published-on .ensures) ∙ c .before .before .before .before .if1 .left) _ (c .before .before .put-stage .ensures)
+returns-2 c = let the-args = c .before .before .before .before .before .before .before .before .before .before .before .before .args in λ cs es vs ms. drain-goes (the-args .z) (tables (the-args .z) (the-args .directory .now) (the-args .tasks .now) cs es vs ms) _ (c .before .before .before .before .before .before .before .before .directory-row .ensures) (sym (c .before .before .before .before .before .published-on .ensures) ∙ c .before .before .before .before .if1 .left) _ (c .before .before .put-stage .ensures .row) _ (c .before .before .put-stage .ensures .index (the-args .z .chunks))
 
 pub drain-spec : {M : Type 1} → statement M
 drain-spec =

@@ -1,7 +1,7 @@
 use Prim.Native.Nat.{_-_}
 use mathlib.Core.Path.{sym, ap, _∙_}
 use Rattle.rows.specs.Rows.{tables}
-use Rattle.rebalance.proofs.Laws.{does-drain, does-copy, does-swap, does-release, does-nothing}
+use Rattle.rebalance.proofs.Laws.{does-drain, does-copy, does-swap, does-index, does-release, does-nothing}
 use Rattle.rules.specs.declared.Directory.{Directory}
 use borrow.Author.Needs.{needs}
 use Rattle.rebalance.proofs.rebalance.Statement.{statement}
@@ -19,8 +19,11 @@ copy-requires c κs = let the-pre = c .before .before .before .before .before .b
 swap-in-requires : tie.Need-swap-in-requires
 swap-in-requires c κs = search needs
 
+index-requires : tie.Need-index-requires
+index-requires c κs = search needs
+
 release-requires : tie.Need-release-requires
-release-requires c κs = let the-pre = c .before .before .before .before .before .before .before .before .before .before .pre in (the-pre .0, the-pre .1 .release (sym (ap (λ (d : Directory). d .stage) (c .before .before .before .before .directory-row .ensures)) ∙ c .before .before .before .match .keys4))
+release-requires c κs = let the-pre = c .before .before .before .before .before .before .before .before .before .before .pre in (the-pre .0, the-pre .1 .release (sym (ap (λ (d : Directory). d .stage) (c .before .before .before .before .directory-row .ensures)) ∙ c .before .before .before .match .keys5))
 
 same-length : tie.Need-same-length
 same-length c = search needs
@@ -55,17 +58,26 @@ same-length-7 c = search needs
 same-length-8 : tie.Need-same-length-8
 same-length-8 c = search needs
 
+returns-4 : tie.Need-returns-4
+returns-4 c = let the-args = c .before .before .before .before .before .before .before .before .before .before .before .before .args in λ vs ms. c .before .before .index .ensures (the-args .tasks .now) (the-args .entries .now) vs ms ∙ does-index (the-args .z) (tables (the-args .z) (the-args .directory .now) (the-args .tasks .now) (the-args .chunks .now) (the-args .entries .now) vs ms) _ (c .before .before .before .before .before .before .directory-row .ensures) (c .before .before .before .before .before .match .keys4)
+
 same-length-9 : tie.Need-same-length-9
 same-length-9 c = search needs
-
-returns-4 : tie.Need-returns-4
-returns-4 c = let the-args = c .before .before .before .before .before .before .before .before .before .before .before .before .before .before .before .before .before .args in λ vs ms. c .before .before .before .before .before .before .release .ensures vs ms ∙ does-release (the-args .z) (tables (the-args .z) (the-args .directory .now) (the-args .tasks .now) (the-args .chunks .now) (the-args .entries .now) vs ms) _ (c .before .before .before .before .before .before .before .before .before .before .before .directory-row .ensures) (c .before .before .before .before .before .before .before .before .before .before .match .keys4)
 
 same-length-10 : tie.Need-same-length-10
 same-length-10 c = search needs
 
+same-length-11 : tie.Need-same-length-11
+same-length-11 c = search needs
+
 returns-5 : tie.Need-returns-5
-returns-5 c = let the-args = c .before .before .before .before .before .before .before .args in λ vs ms. does-nothing (the-args .z) (tables (the-args .z) (the-args .directory .now) (the-args .tasks .now) (the-args .chunks .now) (the-args .entries .now) vs ms) _ (c .before .directory-row .ensures) (c .match .rest .0 .0 .0 .1) (c .match .rest .0 .0 .1) (c .match .rest .0 .1) (c .match .rest .1)
+returns-5 c = let the-args = c .before .before .before .before .before .before .before .before .before .before .before .before .before .before .before .before .before .args in λ vs ms. c .before .before .before .before .before .before .release .ensures vs ms ∙ does-release (the-args .z) (tables (the-args .z) (the-args .directory .now) (the-args .tasks .now) (the-args .chunks .now) (the-args .entries .now) vs ms) _ (c .before .before .before .before .before .before .before .before .before .before .before .directory-row .ensures) (c .before .before .before .before .before .before .before .before .before .before .match .keys5)
+
+same-length-12 : tie.Need-same-length-12
+same-length-12 c = search needs
+
+returns-6 : tie.Need-returns-6
+returns-6 c = let the-args = c .before .before .before .before .before .before .before .args in λ vs ms. does-nothing (the-args .z) (tables (the-args .z) (the-args .directory .now) (the-args .tasks .now) (the-args .chunks .now) (the-args .entries .now) vs ms) _ (c .before .directory-row .ensures) (c .match .rest .0 .0 .0 .0 .1) (c .match .rest .0 .0 .0 .1) (c .match .rest .0 .0 .1) (c .match .rest .0 .1) (c .match .rest .1)
 
 pub rebalance-spec : {M : Type 1} → statement M
 rebalance-spec =
@@ -75,6 +87,7 @@ rebalance-spec =
     drain-requires
     copy-requires
     swap-in-requires
+    index-requires
     release-requires
     same-length
     returns
@@ -87,7 +100,10 @@ rebalance-spec =
     returns-3
     same-length-7
     same-length-8
-    same-length-9
     returns-4
+    same-length-9
     same-length-10
-    returns-5)
+    same-length-11
+    returns-5
+    same-length-12
+    returns-6)

@@ -41,7 +41,7 @@ same-length-4 : tie.Need-same-length-4
 same-length-4 c = search needs
 
 returns-2 : tie.Need-returns-2
-returns-2 c = let the-args = c .before .before .before .before .before .before .before .before .before .before .before .before .before .before .before .before .before .before .before .before .before .before .before .args in λ vs ms. release-ends (the-args .z) (tables (the-args .z) (the-args .directory .now) (the-args .tasks .now) (the-args .chunks .now) (the-args .entries .now) vs ms) _ (c .before .before .before .before .before .before .before .before .before .before .before .before .before .before .before .before .before .directory-row .ensures) (sym (c .before .before .before .before .before .before .before .before .before .before .before .before .before .before .held-chunk .ensures) ∙ c .before .before .before .before .before .before .before .before .before .before .before .before .before .if1 .left) _ (c .before .before .before .before .before .before .before .before .before .before .before .clear .ensures) _ (rw (← c .before .before .before .before .before .before .before .empty-chunk .ensures) (c .before .before .before .before .before .before .put-chunk .ensures)) _ (c .before .before .put-stage .ensures)
+returns-2 c = let the-args = c .before .before .before .before .before .before .before .before .before .before .before .before .before .before .before .before .before .before .before .before .before .before .before .args in λ vs ms. release-ends (the-args .z) (tables (the-args .z) (the-args .directory .now) (the-args .tasks .now) (the-args .chunks .now) (the-args .entries .now) vs ms) _ (c .before .before .before .before .before .before .before .before .before .before .before .before .before .before .before .before .before .directory-row .ensures) (sym (c .before .before .before .before .before .before .before .before .before .before .before .before .before .before .held-chunk .ensures) ∙ c .before .before .before .before .before .before .before .before .before .before .before .before .before .if1 .left) _ (c .before .before .before .before .before .before .before .before .before .before .before .clear .ensures) _ (rw (← c .before .before .before .before .before .before .before .empty-chunk .ensures) (c .before .before .before .before .before .before .put-chunk .ensures)) _ (c .before .before .put-stage .ensures .row) _ (c .before .before .put-stage .ensures .index (the-args .z .chunks))
 
 pub release-spec : {M : Type 1} → statement M
 release-spec =

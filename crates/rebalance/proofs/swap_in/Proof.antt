@@ -43,7 +43,7 @@ same-length-2 : tie.Need-same-length-2
 same-length-2 c = search needs
 
 returns : tie.Need-returns
-returns c = let the-args = c .before .before .before .before .before .before .before .before .before .before .before .before .before .before .before .before .before .before .before .before .before .before .before .before .before .before .before .before .before .before .before .before .before .args in λ ts es vs ms. swap-in-done (the-args .z) (tables (the-args .z) (the-args .directory .now) ts (the-args .chunks .now) es vs ms) _ (c .before .before .before .before .before .before .before .before .before .before .before .before .before .before .before .before .before .before .before .before .before .before .before .before .before .before .before .before .before .directory-row .ensures) _ _ _ (c .before .before .before .before .before .before .before .before .before .before .before .before .before .before .before .before .before .before .before .before .before .before .before .chunk-at .ensures) (c .before .before .before .before .before .before .before .before .before .before .before .before .before .before .before .before .before .before .before .before .before .chunk-at2 .ensures) (c .before .before .before .before .before .before .before .before .before .before .before .before .before .before .before .before .before .before .before .chunk-at3 .ensures) _ _ _ (c .before .before .before .before .before .before .before .before .before .before .before .before .before .before .before .before .join .ensures) (c .before .before .before .before .before .before .before .before .before .before .before .before .place-new .ensures) (rw (← c .before .before .before .before .before .before .before .before .retired .ensures) (c .before .before .before .before .before .before .before .put-chunk .ensures)) _ (rw (← c .before .before .before .first-live .ensures) (c .before .before .put-stage .ensures))
+returns c = let the-args = c .before .before .before .before .before .before .before .before .before .before .before .before .before .before .before .before .before .before .before .before .before .before .before .before .before .before .before .before .before .before .before .before .before .args in λ ts es vs ms. swap-in-done (the-args .z) (tables (the-args .z) (the-args .directory .now) ts (the-args .chunks .now) es vs ms) _ (c .before .before .before .before .before .before .before .before .before .before .before .before .before .before .before .before .before .before .before .before .before .before .before .before .before .before .before .before .before .directory-row .ensures) _ _ _ (c .before .before .before .before .before .before .before .before .before .before .before .before .before .before .before .before .before .before .before .before .before .before .before .chunk-at .ensures) (c .before .before .before .before .before .before .before .before .before .before .before .before .before .before .before .before .before .before .before .before .before .chunk-at2 .ensures) (c .before .before .before .before .before .before .before .before .before .before .before .before .before .before .before .before .before .before .before .chunk-at3 .ensures) _ _ _ (c .before .before .before .before .before .before .before .before .before .before .before .before .before .before .before .before .join .ensures) (c .before .before .before .before .before .before .before .before .before .before .before .before .place-new .ensures) (rw (← c .before .before .before .before .before .before .before .before .retired .ensures) (c .before .before .before .before .before .before .before .put-chunk .ensures)) _ (rw (← c .before .before .before .first-live .ensures) (c .before .before .put-stage .ensures .row)) _ (c .before .before .put-stage .ensures .index (the-args .z .chunks))
 
 pub swap-in-spec : {M : Type 1} → statement M
 swap-in-spec =

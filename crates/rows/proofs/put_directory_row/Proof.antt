@@ -22,6 +22,9 @@ slice-write-words-4 c = simp length-set (omega arith)
 slice-write-words-5 : tie.Need-slice-write-words-5
 slice-write-words-5 c = simp length-set (omega arith)
 
+slice-write-words-6 : tie.Need-slice-write-words-6
+slice-write-words-6 c = simp length-set (omega arith)
+
 same-length : tie.Need-same-length
 same-length c = simp length-set
 
@@ -37,5 +40,6 @@ put-directory-row-spec =
     slice-write-words-3
     slice-write-words-4
     slice-write-words-5
+    slice-write-words-6
     same-length
     returns)

@@ -45,7 +45,13 @@ rebalance-fits-requires : tie.Need-rebalance-fits-requires
 rebalance-fits-requires c κs = search needs
 
 returns-7 : tie.Need-returns-7
-returns-7 c = c .rebalance-fits .ensures ∙ sym (shape-is _ _ _ _ _ _ _ (c .before .before .before .before .before .before .before .before .before .before .before .before .before .before .before .before .before .before .before .before .pre) _ (c .before .before .before .before .before .before .before .before .before .before .before .before .before .directory-row .ensures) ∙ rw (sym (c .before .before .before .before .before .before .before .before .before .before .before .before .marks-right .ensures) ∙ not-false _ (c .before .before .before .before .before .before .before .before .before .before .before .if1 .left), lt-ltb _ _ (c .before .before .before .before .before .before .before .before .before .if2 .left), sym (c .before .before .before .before .before .before .before .before .chunks-right .ensures) ∙ not-false _ (c .before .before .before .before .before .before .before .if3 .left), sym (c .before .before .before .before .before .before .chain-right .ensures) ∙ not-false _ (c .before .before .before .before .before .if4 .left), sym (c .before .before .before .before .tasks-right .ensures) ∙ not-false _ (c .before .before .before .if5 .left), sym (c .before .before .stacks-right .ensures) ∙ not-false _ (c .before .if6 .left)))
+returns-7 c = sym (shape-is _ _ _ _ _ _ _ (c .before .before .before .before .before .before .before .before .before .before .before .before .before .before .before .before .before .before .before .before .before .pre) _ (c .before .before .before .before .before .before .before .before .before .before .before .before .before .before .directory-row .ensures) ∙ rw (sym (c .before .before .before .before .before .before .before .before .before .before .before .before .before .marks-right .ensures) ∙ not-false _ (c .before .before .before .before .before .before .before .before .before .before .before .before .if1 .left), lt-ltb _ _ (c .before .before .before .before .before .before .before .before .before .before .if2 .left), sym (c .before .before .before .before .before .before .before .before .before .chunks-right .ensures) ∙ not-false _ (c .before .before .before .before .before .before .before .before .if3 .left), sym (c .before .before .before .before .before .before .before .chain-right .ensures) ∙ not-false _ (c .before .before .before .before .before .before .if4 .left), sym (c .before .before .before .before .before .tasks-right .ensures) ∙ not-false _ (c .before .before .before .before .if5 .left), sym (c .before .before .before .stacks-right .ensures) ∙ not-false _ (c .before .before .if6 .left), sym (c .before .rebalance-fits .ensures) ∙ not-true _ (c .if7 .taken)))
+
+index-right-requires : tie.Need-index-right-requires
+index-right-requires c κs = let the-pre = c .before .before .before .before .before .before .before .before .before .before .before .before .before .before .before .before .before .before .before .before .before .pre in record { directory = the-pre .directory; chunks = the-pre .chunks }
+
+returns-8 : tie.Need-returns-8
+returns-8 c = c .index-right .ensures ∙ sym (shape-is _ _ _ _ _ _ _ (c .before .before .before .before .before .before .before .before .before .before .before .before .before .before .before .before .before .before .before .before .before .before .pre) _ (c .before .before .before .before .before .before .before .before .before .before .before .before .before .before .before .directory-row .ensures) ∙ rw (sym (c .before .before .before .before .before .before .before .before .before .before .before .before .before .before .marks-right .ensures) ∙ not-false _ (c .before .before .before .before .before .before .before .before .before .before .before .before .before .if1 .left), lt-ltb _ _ (c .before .before .before .before .before .before .before .before .before .before .before .if2 .left), sym (c .before .before .before .before .before .before .before .before .before .before .chunks-right .ensures) ∙ not-false _ (c .before .before .before .before .before .before .before .before .before .if3 .left), sym (c .before .before .before .before .before .before .before .before .chain-right .ensures) ∙ not-false _ (c .before .before .before .before .before .before .before .if4 .left), sym (c .before .before .before .before .before .before .tasks-right .ensures) ∙ not-false _ (c .before .before .before .before .before .if5 .left), sym (c .before .before .before .before .stacks-right .ensures) ∙ not-false _ (c .before .before .before .if6 .left), sym (c .before .before .rebalance-fits .ensures) ∙ not-false _ (c .before .if7 .left)))
 
 pub has-shape-spec : {M : Type 1} → statement M
 has-shape-spec =
@@ -64,4 +70,6 @@ has-shape-spec =
     stacks-right-requires
     returns-6
     rebalance-fits-requires
-    returns-7)
+    returns-7
+    index-right-requires
+    returns-8)

@@ -15,7 +15,7 @@ stays-requires : tie.Need-stays-requires
 stays-requires c κs = search needs
 
 locate-requires : tie.Need-locate-requires
-locate-requires c κs = let the-pre = c .before .before .before .before .before .before .before .pre in ⊎-elim (λ w. (the-pre .0 .directory, the-pre .0 .chunks, omega arith)) (λ w. (the-pre .0 .directory, the-pre .0 .chunks, omega arith)) (c .match .keys2)
+locate-requires c κs = let the-pre = c .before .before .before .before .before .before .before .pre in ⊎-elim (λ w. (the-pre .3, omega arith)) (λ w. (the-pre .3, omega arith)) (c .match .keys2)
 
 find-requires : tie.Need-find-requires
 find-requires c κs = let the-pre = c .before .before .before .before .before .before .before .pre in (chunk-held 2 _ _ (the-pre .1) (c .match .keys3) refl, the-pre .0 .chunks, the-pre .0 .entries)
@@ -48,10 +48,10 @@ read-again-requires : tie.Need-read-again-requires
 read-again-requires c κs = let the-pre = c .before .before .before .before .before .before .before .pre in (both-held 18 _ _ (the-pre .1) (c .match .keys12) refl refl, the-pre .0 .entries)
 
 scan-requires : tie.Need-scan-requires
-scan-requires c κs = let the-pre = c .before .before .before .before .before .before .before .pre in (the-pre .0 .directory, the-pre .0 .chunks, the-pre .0 .entries, the-pre .3)
+scan-requires c κs = let the-pre = c .before .before .before .before .before .before .before .pre in (the-pre .3, the-pre .0 .entries)
 
 scan-down-requires : tie.Need-scan-down-requires
-scan-down-requires c κs = let the-pre = c .before .before .before .before .before .before .before .pre in (the-pre .0, the-pre .4)
+scan-down-requires c κs = let the-pre = c .before .before .before .before .before .before .before .pre in (the-pre .0, the-pre .3, the-pre .4)
 
 insertion-requires : tie.Need-insertion-requires
 insertion-requires c κs = let the-match = c .before .match in let the-pre = c .before .before .before .before .before .before .before .before .pre in (the-pre .1, the-pre .0 .chunks, the-pre .0 .entries, over 9 _ (over 8 _ (over 7 _ (over 6 _ (over 5 _ (over 4 _ (over 3 _ (over 2 _ (over 1 _ (over 0 _ zero-le (the-match .rest .0 .0 .0 .0 .0 .0 .0 .0 .0 .0 .0 .0 .0 .1)) (λ e. (the-match .rest .0 .0 .0 .0 .0 .0 .0 .0 .0 .0 .0 .0 .1) (inl e))) (the-match .rest .0 .0 .0 .0 .0 .0 .0 .0 .0 .0 .0 .1)) (the-match .rest .0 .0 .0 .0 .0 .0 .0 .0 .0 .0 .1)) (the-match .rest .0 .0 .0 .0 .0 .0 .0 .0 .0 .1)) (the-match .rest .0 .0 .0 .0 .0 .0 .0 .0 .1)) (the-match .rest .0 .0 .0 .0 .0 .0 .0 .1)) (the-match .rest .0 .0 .0 .0 .0 .0 .1)) (the-match .rest .0 .0 .0 .0 .0 .1)) (the-match .rest .0 .0 .0 .0 .1), le-of-suc-le-suc (c .if1 .taken))

@@ -6,9 +6,10 @@ use borrow.Author.Tests.{le-leb, lt-leb, eq-eqb}
 use borrow.Author.Needs.{needs}
 use Rattle.rules.specs.Tables.{Tables, task, idleTask}
 use Rattle.rules.specs.Rebalance.{Outcome}
-use Rattle.rules.proofs.Shaped.{shape-parts, stage-known}
+use Rattle.rules.proofs.Shaped.{stage-known}
 use Rattle.rows.specs.Rows.{tables, taskOf}
 use Rattle.rows.proofs.Laws.{row-read, length-rows}
+use Rattle.locating.proofs.Laws.{shape-charted}
 use Rattle.stepping.proofs.Held.{task-held}
 use Rattle.stepping.proofs.Stepped.{down-decided, stepped}
 use Rattle.stepping.proofs.step.Statement.{statement}
@@ -41,10 +42,11 @@ lend-requires : tie.Need-lend-requires
 lend-requires c κs =
     let row = c .before .before .before .before .before .before .before in
     let s = lent (start row) in
-    let z = start row .args .z in
-    let n = start row .args .n in
+    let a = start row .args in
+    let z = a .z in
+    let n = a .n in
     let pre = start row .pre in
-    (pre .0, rw (own row) (task-held z s (pre .1) (length-rows _ _ _) n (row .before .before .if1 .left)), rw (own row) (suc-le-suc (stage-known z s (pre .1) n)), shape-parts z s (pre .1) .first, row .before .before .if1 .left)
+    (pre .0, rw (own row) (task-held z s (pre .1) (length-rows _ _ _) n (row .before .before .if1 .left)), rw (own row) (suc-le-suc (stage-known z s (pre .1) n)), shape-charted z (a .directory .now) (a .tasks .now) (a .chunks .now) (a .entries .now) (a .values .now) (a .marks .now) (pre .0) (pre .1), row .before .before .if1 .left)
 
 restack-requires : tie.Need-restack-requires
 restack-requires c κs =

@@ -1,12 +1,13 @@
 //! Compares the proved calls, through the C boundary, with the second implementation: every report and every word of every table
-//! after every call, on random runs from fresh, on damaged tables and on damaged stacks. `compare [SEED [CALLS]]`: CALLS of each kind,
-//! of the archive that is linked or of the program that KAMRDUCH_LEND names.
+//! after every call, on random runs from fresh, on damaged tables, on damaged stacks and on damaged indexes. `compare [SEED [CALLS]]`:
+//! CALLS of each kind, of the archive that is linked or of the program that KAMRDUCH_LEND names.
 use compare::damage::{any_call, damage, gentle, place};
+use compare::indexes::{self, has_retired, located, locating_call, of_retired, stood, to_locate, STOOD};
 use compare::runs::{filling, habit, next_call, odd_call, run_keys};
 use compare::stacks::{change, scan_down, WAYS};
-use compare::states::scans_down;
+use compare::states::{amid_rebalances, scans_down};
 use compare::{model_call, Call, Chance, Host};
-use model::words::{blank, Words, LENGTHS, NONE, TASK_ROWS};
+use model::words::{blank, Words, INDEX, INDEX_WORDS, LENGTHS, NONE, TASK_ROWS};
 use model::{Report, Tables, ENTRIES, TASKS};
 
 /// How often each thing was met.
@@ -18,6 +19,8 @@ struct Met {
     stages: [u64; 24],
     /// puts and removes that answered a value, and absent
     former: [[u64; 2]; 2],
+    /// calls that located, by how the index stood to their key
+    located: [u64; STOOD.len()],
 }
 
 impl Met {
@@ -43,6 +46,9 @@ impl Met {
         for (what, [value, absent]) in ["puts", "removes"].iter().zip(self.former) {
             println!("  {what}: {value} answered a value, {absent} absent");
         }
+        for (how, count) in STOOD.iter().zip(self.located) {
+            println!("  located through an index that was {how}: {count}");
+        }
     }
 }
 
@@ -66,7 +72,11 @@ fn differ(seed: u64, call: Call, what: &str, pair: &Pair) -> ! {
             }
         }
     }
-    eprintln!("  directory {:?}", pair.before[0]);
+    let (row, index) = pair.before[0].split_at(INDEX.min(pair.before[0].len()));
+    eprintln!("  directory {row:?}");
+    for row in index.chunks(INDEX_WORDS) {
+        eprintln!("  index {row:?}");
+    }
     let (rows, stacks) = pair.before[1].split_at(TASK_ROWS.min(pair.before[1].len()));
     for row in rows.chunks(11) {
         eprintln!("  task {row:?}");
@@ -129,6 +139,9 @@ impl Pair {
         }
         self.left_alone(seed, call, report);
         met.count(work, told);
+        if let Some(key) = located(&self.before, call, report) {
+            met.located[stood(&self.before, key)] += 1;
+        }
         report
     }
 
@@ -222,19 +235,19 @@ fn damaged(host: &mut Host, seed: u64, calls: u64, reached: &[Words], met: &mut 
         }
         if r.once_in(12) {
             let t = r.below(6);
-            let n = r.of(&[0, 1, LENGTHS[t] - 1, LENGTHS[t] + 1, LENGTHS[t] * 2, LENGTHS[(t + 1) % 6], TASK_ROWS]);
+            let n = r.of(&[0, 1, LENGTHS[t] - 1, LENGTHS[t] + 1, LENGTHS[t] * 2, LENGTHS[(t + 1) % 6], TASK_ROWS, INDEX]);
             w[t].resize(n, 0);
         }
-        passed += calls_on(host, seed, &mut r, &w, met);
+        passed += calls_on(host, seed, &mut r, &w, any_call, met);
     }
     passed
 }
 
 /// Up to eight calls on the words, fewer where one is refused by 10; how many were not.
-fn calls_on(host: &mut Host, seed: u64, r: &mut Chance, w: &Words, met: &mut Met) -> u64 {
+fn calls_on(host: &mut Host, seed: u64, r: &mut Chance, w: &Words, next: fn(&mut Chance, &Words) -> Call, met: &mut Met) -> u64 {
     let (mut pair, mut passed) = (Pair::of(w), 0);
     for _ in 0..1 + r.below(8) {
-        let call = any_call(r, &pair.words);
+        let call = next(r, &pair.words);
         if r.once_in(50) {
             pair.untold(host, seed, call, r.of(&[0, 1, 3, 1000]));
         }
@@ -266,7 +279,38 @@ fn stacked(host: &mut Host, seed: u64, calls: u64, reached: &[Words], met: &mut 
         }
         let way = r.below(WAYS + 1);
         change(&mut r, &mut w, n, way);
-        let passed = calls_on(host, seed, &mut r, &w, met);
+        let passed = calls_on(host, seed, &mut r, &w, any_call, met);
+        ways[way].0 += 1;
+        ways[way].1 += (passed > 0) as u64;
+    }
+    ways
+}
+
+/// Indexes, as they are reached and damaged: a state with tasks that come to locate, its index changed in one way or in none; then up to
+/// eight calls. How many states of each way there were, and how many had the shape.
+fn indexed(host: &mut Host, seed: u64, calls: u64, reached: &[Words], met: &mut Met) -> Vec<(u64, u64)> {
+    let mut r = Chance::new(seed ^ 0x1dec);
+    let mut ways = vec![(0, 0); indexes::WAYS.len() + 1];
+    let chosen: Vec<Words> = amid_rebalances()
+        .iter()
+        .map(|t| {
+            let mut words = blank();
+            t.to_words(&mut words);
+            words
+        })
+        .collect();
+    while met.calls < calls {
+        let way = r.below(ways.len());
+        let from = if r.once_in(2) { reached } else { &chosen };
+        let mut w = from[r.below(from.len())].clone();
+        if of_retired(way) && !has_retired(&w) {
+            continue;
+        }
+        for _ in 0..1 + r.below(4) {
+            to_locate(&mut r, &mut w);
+        }
+        indexes::change(&mut r, &mut w, way);
+        let passed = calls_on(host, seed, &mut r, &w, locating_call, met);
         ways[way].0 += 1;
         ways[way].1 += (passed > 0) as u64;
     }
@@ -288,4 +332,10 @@ fn main() {
     let ways = stacked(&mut host, seed, calls, &reached, &mut met);
     met.print("stacks, damaged in each way and in none");
     println!("  states of each way, and with the shape: {ways:?}");
+    let mut met = Met::default();
+    let ways = indexed(&mut host, seed, calls, &reached, &mut met);
+    met.print("indexes, damaged in each way and in none");
+    for (what, (states, shaped)) in indexes::WAYS.iter().chain(&["as it was"]).zip(ways) {
+        println!("  {what}: {states} states, {shaped} with the shape");
+    }
 }

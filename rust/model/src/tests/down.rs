@@ -157,6 +157,7 @@ fn a_retired_chunk_is_gone_through_and_release_waits() {
     assert_eq!(whole(&mut tables, 0, REMOVE, 14, 0, 0).1, value(140));
     assert_eq!(whole(&mut tables, 0, PUT, 14, 2, 0).1, ABSENT);
     assert_eq!(tables.step(7), Report::Pair(16, 1));
+    assert_eq!(tables.rebalance(), Report::MovedOn);
     steps(&mut tables, 7, 2);
     for key in (10..=13).rev() {
         waits(&mut tables);
@@ -182,7 +183,7 @@ fn drain_does_not_wait_for_a_scan_down() {
     start(&mut tables, 7, SCAN_DOWN, 0, 10, 0);
     steps(&mut tables, 7, 1);
     assert_eq!(tables.begin(0), Report::MovedOn);
-    for _ in 0..3 {
+    for _ in 0..4 {
         assert_eq!(tables.rebalance(), Report::MovedOn);
     }
     waits(&mut tables);

@@ -95,6 +95,7 @@ fn m9_release_waits_for_a_reader() {
         assert_eq!(tables.rebalance(), Report::MovedOn);
     }
     assert_eq!(whole(&mut tables, 1, PUT, 5, 50, 0), (9, ABSENT));
+    assert_eq!(tables.rebalance(), Report::MovedOn);
     let before = tables.clone();
     assert_eq!(tables.rebalance(), Report::Waiting);
     assert_eq!(tables, before);

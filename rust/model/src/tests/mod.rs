@@ -2,6 +2,7 @@
 mod answers;
 mod down;
 mod former;
+mod index;
 mod marked;
 mod random;
 mod refused;
@@ -94,7 +95,7 @@ pub fn with_keys(count: u64) -> Tables {
 /// A whole rebalance of the chunk that has the key.
 pub fn rebalance_all(tables: &mut Tables, key: u64) {
     assert_eq!(tables.begin(key), Report::MovedOn);
-    for _ in 0..3 {
+    for _ in 0..4 {
         assert_eq!(tables.rebalance(), Report::MovedOn);
     }
     assert_eq!(tables.rebalance(), Report::Released);

@@ -47,6 +47,14 @@ fn check_map(before: &Tables, after: &Tables) {
     assert_eq!(others(&from), others(&to));
 }
 
+/// The index has the rows of the live chunks, but between swap in and the index step those of before.
+fn check_index(before: &Tables, after: &Tables) {
+    match after.rebalance {
+        Rebalance::Index(..) => assert_eq!(after.index, before.index),
+        _ => assert_eq!(after.index, after.live_rows()),
+    }
+}
+
 /// How often each report was told, and each stage done.
 #[derive(Default)]
 struct Seen {
@@ -69,6 +77,7 @@ fn random_run(seed: u64, seen: &mut Seen) {
             assert_eq!(tables, before);
         }
         check_map(&before, &tables);
+        check_index(&before, &tables);
     }
     assert!(tables.has_shape());
     assert_eq!(Tables::from_words(&as_words(&tables)), Some(tables));
@@ -156,7 +165,7 @@ fn spoilt_structs_bring_no_panic() {
             steps(&mut tables, 0, 3);
             start(&mut tables, 1, SCAN_DOWN, 0, 9, 0);
             steps(&mut tables, 1, 1);
-            let mut spoilt: Vec<Tables> = vec![tables; 11];
+            let mut spoilt: Vec<Tables> = vec![tables; 13];
             spoilt[0].first = a;
             spoilt[1].rebalance = Rebalance::Drain(a);
             spoilt[2].rebalance = Rebalance::SwapIn(a, b, Some(a));
@@ -180,6 +189,8 @@ fn spoilt_structs_bring_no_panic() {
             if let Some(task) = &mut spoilt[10].tasks[1] {
                 task.stack = [a, b].into_iter().collect();
             }
+            spoilt[11].rebalance = Rebalance::Index(a, b, None);
+            spoilt[12].index = [a, b].into_iter().map(|chunk| IndexRow { min: chunk as u64, chunk }).collect();
             for tables in &spoilt {
                 tables.locate(a as u64);
                 tables.chunks[0].find(5);

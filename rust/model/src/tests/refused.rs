@@ -84,7 +84,7 @@ fn unused_arguments_are_kept_as_0() {
 #[test]
 fn six_begin_while_under_way() {
     let mut tables = Tables::fresh();
-    for _ in 0..4 {
+    for _ in 0..5 {
         assert_eq!(
             if tables.rebalance == Rebalance::Idle {
                 tables.begin(0)

@@ -156,7 +156,7 @@ fn a_removal_on_a_frozen_chunk_goes_back_to_16() {
     assert_eq!(tables.chunks[1].entries[0].handle, None);
     assert_eq!(tables.chunks[0].entries[0].handle, Some(0));
     assert_eq!(tables.lowest_free(), Some(1));
-    assert_eq!(tables.rebalance(), Report::Released);
+    assert_eq!([tables.rebalance(), tables.rebalance()], [Report::MovedOn, Report::Released]);
     assert_eq!(tables.lowest_free(), Some(0));
 }
 

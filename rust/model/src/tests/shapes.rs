@@ -291,12 +291,18 @@ fn copied_and_swapped_without_shape() {
         ("thawed", |t| t.chunks[0].frozen = false),
         ("new one frozen", |t| t.chunks[1].frozen = true),
         ("another retired", |t| t.chunks[3].status = Status::Retired),
-        ("old live", |t| t.rebalance = Rebalance::Release(1, 2, None)),
-        ("new unused", |t| t.rebalance = Rebalance::Release(0, 3, None)),
-        ("new retired", |t| t.rebalance = Rebalance::Release(0, 0, None)),
+        ("old live", |t| t.rebalance = Rebalance::Index(1, 2, None)),
+        ("new unused", |t| t.rebalance = Rebalance::Index(0, 3, None)),
+        ("new retired", |t| t.rebalance = Rebalance::Index(0, 0, None)),
+        ("new twice", |t| t.rebalance = Rebalance::Index(0, 1, Some(1))),
+        ("old live at release", |t| t.rebalance = Rebalance::Release(1, 2, None)),
+        ("new unused at release", |t| t.rebalance = Rebalance::Release(0, 3, None)),
+        ("new retired at release", |t| t.rebalance = Rebalance::Release(0, 0, None)),
+        ("new twice at release", |t| t.rebalance = Rebalance::Release(0, 1, Some(1))),
         ("idle", |t| t.rebalance = Rebalance::Idle),
     ];
     expect(&rebalancing(4), false, swapped);
+    expect(&rebalancing(5), false, swapped);
 }
 
 #[test]
@@ -314,10 +320,12 @@ fn rebalances_with_shape() {
     expect(&rebalancing(3), true, copied);
     let swapped: &[(&str, Change)] = &[
         ("the retired one has another next", |t| t.chunks[0].next = Some(31)),
-        ("the retired one has any minimum key", |t| t.chunks[0].min = 99),
-        ("second left out", |t| t.rebalance = Rebalance::Release(0, 1, None)),
+        ("second left out", |t| t.rebalance = Rebalance::Index(0, 1, None)),
+        ("second left out at release", |t| t.rebalance = Rebalance::Release(0, 1, None)),
     ];
     expect(&rebalancing(4), true, swapped);
+    expect(&rebalancing(5), true, swapped);
+    expect(&rebalancing(5), true, &[("the retired one has any minimum key", |t| t.chunks[0].min = 99)]);
 }
 
 #[test]
@@ -331,8 +339,8 @@ fn the_second_new_chunk_is_not_the_first() {
 
 /// Table, index and word.
 #[rustfmt::skip]
-const NOT_HELD: [(usize, usize, u64); 23] = [
-    (0, 0, NONE), (0, 1, 5), (0, 1, 1), (0, 2, 0), (0, 3, 0), (0, 4, 0), (1, 0, 24), (1, 0, 0),
+const NOT_HELD: [(usize, usize, u64); 24] = [
+    (0, 0, NONE), (0, 1, 5), (0, 1, 6), (0, 1, 1), (0, 2, 0), (0, 3, 0), (0, 4, 0), (1, 0, 24), (1, 0, 0),
     (1, 1, 0), (1, 1, 9), (1, 9, 2), (1, 10, 2), (1, 55, 1), (1, 56, 1), (1, 57, 1), (1, 58, 1),
     (1, 59, 1), (1, 60, 0), (1, 63, 0), (1, 65, 1), (2, 0, 4), (2, 1, 2), (5, 0, 2),
 ];
@@ -356,7 +364,8 @@ fn words_that_no_struct_holds() {
 #[test]
 fn the_fresh_words() {
     let words = as_words(&Tables::fresh());
-    assert_eq!(words[0], [0, 0, NONE, NONE, NONE]);
+    assert_eq!(words[0][..8], [0, 0, NONE, NONE, NONE, 1, 0, 0]);
+    assert!(words[0].len() == 70 && words[0][8..].chunks(2).all(|row| row == [0, NONE]));
     assert_eq!(words[1][..11], [0, 0, 0, 0, 0, NONE, NONE, NONE, NONE, 0, 0]);
     assert!(words[1].len() == 344 && words[1][88..].iter().all(|&word| word == NONE));
     assert_eq!(words[2][..12], [1, 0, 0, NONE, NONE, 0, 0, 0, 0, NONE, NONE, 0]);

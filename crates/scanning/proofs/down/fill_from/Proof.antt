@@ -2,9 +2,6 @@ use borrow.Author.Needs.{needs}
 use Rattle.scanning.proofs.down.fill_from.Statement.{statement}
 use Rattle.scanning.proofs.down.fill_from.Tie as tie
 
-directory-row-requires : tie.Need-directory-row-requires
-directory-row-requires c κs = search needs
-
 locate-requires : tie.Need-locate-requires
 locate-requires c κs = search needs
 
@@ -12,8 +9,7 @@ moves-to-requires : tie.Need-moves-to-requires
 moves-to-requires c κs = search needs
 
 returns : tie.Need-returns
-returns c = λ ts es vs ms. let q = rw (c .before .before .before .directory-row .ensures) at (c .before .locate .ensures) in rw (← q) (c .moves-to .ensures)
+returns c = λ ts es vs ms. rw (← c .before .locate .ensures ts es vs ms) (c .moves-to .ensures)
 
 pub fill-from-spec : {M : Type 1} → statement M
-fill-from-spec =
-    tie.close (tie.spec directory-row-requires locate-requires moves-to-requires returns)
+fill-from-spec = tie.close (tie.spec locate-requires moves-to-requires returns)

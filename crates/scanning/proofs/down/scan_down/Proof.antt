@@ -45,7 +45,7 @@ sub-fill-from : tie.Need-sub-fill-from
 sub-fill-from c = search needs
 
 fill-from-requires-2 : tie.Need-fill-from-requires-2
-fill-from-requires-2 c κs = let s = c .before .before .before .before .before .before .before .before .before .before .before .before .before .before .before .before in (s .pre .0 .directory, s .pre .0 .chunks)
+fill-from-requires-2 c κs = c .before .before .before .before .before .before .before .before .before .before .before .before .before .before .before .before .pre .1
 
 returns-4 : tie.Need-returns-4
 returns-4 c = let s = c .before .before .before .before .before .before .before .before .before .before .before .before .before .before .before .before .before in c .fill-from2 .ensures (s .args .tasks .now) (s .args .entries .now) (s .args .values .now) (s .args .marks .now) ∙ sym (down-next (s .args .z) (lent s) (s .args .t) (s .args .n) _ (c .before .before .before .before .before .before .before .before .before .before .stack-depth .ensures .0) (omega (arith, s .good)) (c .before .before .before .before .before .before .before .before .before .if1 .left) (c .before .before .before .before .before .before .if2 .left) _ (c .before .before .before .before .before .chunk-at .ensures) (c .before .before .if3 .left))

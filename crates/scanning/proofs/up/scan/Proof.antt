@@ -20,7 +20,7 @@ walk-requires : tie.Need-walk-requires
 walk-requires c κs = search needs
 
 entry-at-requires : tie.Need-entry-at-requires
-entry-at-requires c κs = record { chunk = c .before .before .before .before .walk .ensures [] [] .numbered; entry = c .if2 .taken; long = c .before .before .before .before .before .before .before .before .before .before .before .before .pre .2 }
+entry-at-requires c κs = record { chunk = c .before .before .before .before .walk .ensures [] [] .numbered; entry = c .if2 .taken; long = c .before .before .before .before .before .before .before .before .before .before .before .before .pre .1 }
 
 word-at-requires : tie.Need-word-at-requires
 word-at-requires c κs = search needs
@@ -38,7 +38,7 @@ chunk-at-requires : tie.Need-chunk-at-requires
 chunk-at-requires c κs = search needs
 
 chunk-at-requires-2 : tie.Need-chunk-at-requires-2
-chunk-at-requires-2 c κs = c .before .before .before .before .before .before .before .before .before .before .before .before .before .before .before .before .pre .1
+chunk-at-requires-2 c κs = c .before .before .before .before .before .before .before .before .before .before .before .before .before .before .before .before .pre .0 .chunks
 
 moves-cursor-requires-2 : tie.Need-moves-cursor-requires-2
 moves-cursor-requires-2 c κs = search needs

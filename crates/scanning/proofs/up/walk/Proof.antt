@@ -7,6 +7,7 @@ use Rattle.rules.specs.Walks.{locateFrom, presentFrom}
 use Rattle.rows.specs.Rows.{directoryOf, chunkRows, entryRows}
 use Rattle.rules.proofs.Tests.{and-left}
 use borrow.Author.Tests.{ltb-true}
+use borrow.Author.Needs.{needs}
 use Rattle.walks.proofs.Laws.{locate-spent}
 use Rattle.scanning.proofs.Laws.{on-next, on-stop, present-spent, present-out, present-here, present-next}
 use Rattle.scanning.proofs.up.walk.Statement.{statement}
@@ -24,11 +25,11 @@ Inv-walk z directory chunks entries marks from to at₀ left₀ at left = (locat
 abbrev μ-walk : tie.MeasureT-walk
 μ-walk z directory chunks entries marks from to at₀ left₀ at left = left
 
-directory-row-requires : tie.Need-directory-row-requires Inv-loop μ-loop Inv-walk μ-walk
-directory-row-requires c κs = omega arith
+start-requires : tie.Need-start-requires Inv-loop μ-loop Inv-walk μ-walk
+start-requires c κs = search needs
 
 walk-holds : tie.Need-walk-holds Inv-loop μ-loop Inv-walk μ-walk
-walk-holds c = (rw (c .before .directory-row .ensures), rw (c .before .directory-row .ensures) (c .before .before .before .before .before .before .pre .3))
+walk-holds c = (sym (c .start .ensures .same), c .start .ensures .numbered)
 
 chunk-at-requires : tie.Need-chunk-at-requires Inv-loop μ-loop Inv-walk μ-walk
 chunk-at-requires c κs = omega arith
@@ -52,7 +53,7 @@ returns : tie.Need-returns Inv-loop μ-loop Inv-walk μ-walk
 returns c = let the-loop = c .before .before .before .loop in λ ts vs. record { chunk = sym (the-loop .inv .0); entry = rw (the-loop .inv .0) (sym (the-loop .inv .2 ∙ present-out _ _ _ _ _ _ _ _ (c .if3 .taken))); numbered = the-loop .inv .1 }
 
 entry-at-requires : tie.Need-entry-at-requires Inv-loop μ-loop Inv-walk μ-walk
-entry-at-requires c κs = record { chunk = c .before .before .before .loop .inv .1; entry = omega arith; long = c .before .before .before .before .before .before .before .before .before .before .before .before .before .before .pre .2 }
+entry-at-requires c κs = record { chunk = c .before .before .before .loop .inv .1; entry = omega arith; long = c .before .before .before .before .before .before .before .before .before .before .before .before .before .pre .1 }
 
 gives-requires : tie.Need-gives-requires Inv-loop μ-loop Inv-walk μ-walk
 gives-requires c κs = omega arith
@@ -80,7 +81,7 @@ walk-spec =
     μ-loop
     Inv-walk
     μ-walk
-    directory-row-requires
+    start-requires
     walk-holds
     chunk-at-requires
     goes-on-requires

@@ -1,150 +1,14 @@
 //! Measures the linked calls beside the second implementation, and prints docs/BENCHMARKS.md.
 //! `bench` measures times, and instructions by running itself once under callgrind; `bench --once` makes each measured call once.
+mod locating;
+mod measure;
+
 use compare::states::{all_stages, at_stage, busy, busy_down, case, filled, heavy, long_lists, operate, with_chunks, with_keys, Case, STAGES};
-use compare::{linked_call, model_call, Call};
-use model::words::{blank, Words};
+use compare::Call;
+use measure::{instructions, measure, measure_beside, median, once, timed, Figures, RUNS};
+use model::words::blank;
 use model::{Report, Stage, Tables};
 use std::hint::black_box;
-use std::process::Command;
-use std::time::Instant;
-
-const RUNS: usize = 11;
-
-#[derive(Clone, Copy)]
-struct Figures {
-    linked: f64,
-    model: f64,
-}
-
-// ---- measuring
-
-#[no_mangle]
-#[inline(never)]
-pub extern "C" fn measured_linked(w: &mut Words, call: &Call, answer: &mut [u64; 2]) -> u64 {
-    let number = linked_call(w, *call, answer);
-    black_box(answer);
-    number
-}
-
-#[no_mangle]
-#[inline(never)]
-pub extern "C" fn measured_model(t: &mut Tables, call: &Call, answer: &mut [u64; 2]) -> u64 {
-    let (number, first, second) = model_call(t, *call).told();
-    *answer = [first, second];
-    black_box(answer);
-    number
-}
-
-/// Under callgrind, writes the counts since the last mark to a file of their own (valgrind's client request for it); else does nothing.
-fn mark() {
-    const DUMP_STATS: u64 = 0x4354_0000;
-    let ask = [DUMP_STATS, 0, 0, 0, 0, 0];
-    // the sequence does nothing on the machine itself
-    #[cfg(target_arch = "aarch64")]
-    unsafe {
-        std::arch::asm!(
-            "ror x12, x12, #3", "ror x12, x12, #13", "ror x12, x12, #51", "ror x12, x12, #61", "orr x10, x10, x10",
-            in("x4") ask.as_ptr(), inout("x3") 0u64 => _,
-        );
-    }
-    #[cfg(target_arch = "x86_64")]
-    unsafe {
-        std::arch::asm!(
-            "rol rdi, 3", "rol rdi, 13", "rol rdi, 61", "rol rdi, 51", "xchg rbx, rbx",
-            in("rax") ask.as_ptr(), inout("rdx") 0u64 => _,
-        );
-    }
-}
-
-fn median(mut xs: Vec<f64>) -> f64 {
-    xs.sort_by(f64::total_cmp);
-    xs[xs.len() / 2]
-}
-
-/// Nanoseconds of what is timed, the median of so many times, a clock's reading taken off; `ready` comes before each.
-fn timed(times: usize, mut ready: impl FnMut(), mut run: impl FnMut()) -> f64 {
-    let (mut spent, mut clock) = (vec![], vec![]);
-    for _ in 0..times {
-        let at = Instant::now();
-        clock.push(black_box(at).elapsed().as_nanos() as f64);
-        ready();
-        let at = Instant::now();
-        run();
-        spent.push(at.elapsed().as_nanos() as f64);
-    }
-    median(spent) - median(clock)
-}
-
-/// The medians of the runs, the two sides in turn within each.
-fn measure(tables: &Tables, words: &Words, times: usize, mut by: impl FnMut(&mut dyn FnMut(Call) -> Report)) -> Figures {
-    let (mut linked, mut model) = (vec![], vec![]);
-    let by = std::cell::RefCell::new(&mut by);
-    for _ in 0..RUNS {
-        let w = std::cell::RefCell::new(words.clone());
-        let mut answer = [0; 2];
-        linked.push(timed(
-            times,
-            || w.borrow_mut().iter_mut().zip(words).for_each(|(a, b)| a.copy_from_slice(b)),
-            || by.borrow_mut()(&mut |call| report(measured_linked(&mut w.borrow_mut(), &call, &mut answer))),
-        ));
-        let t = std::cell::RefCell::new(tables.clone());
-        model.push(timed(
-            times,
-            || t.borrow_mut().clone_from(tables),
-            || by.borrow_mut()(&mut |call| report(measured_model(&mut t.borrow_mut(), &call, &mut answer))),
-        ));
-    }
-    Figures {
-        linked: median(linked),
-        model: median(model),
-    }
-}
-
-/// Enough of a report to go on by.
-fn report(number: u64) -> Report {
-    match number {
-        0 => Report::Refused(0),
-        1..=5 => Report::MovedOn,
-        _ => Report::Released,
-    }
-}
-
-fn measure_case(c: &Case, times: usize) -> Figures {
-    measure(&c.tables, &c.words, times, |call| {
-        black_box(call(c.call));
-    })
-}
-
-/// The instructions of each case's call, in order: this program once under callgrind, which writes a file for each measured call.
-fn instructions(count: usize) -> Option<Vec<Figures>> {
-    let dir = std::env::temp_dir().join(format!("kamrduch-bench-{}", std::process::id()));
-    std::fs::create_dir_all(&dir).ok()?;
-    let out = dir.join("counts");
-    let done = Command::new("valgrind")
-        .args(["-q", "--tool=callgrind"])
-        .arg(format!("--callgrind-out-file={}", out.display()))
-        .arg(std::env::current_exe().ok()?)
-        .arg("--once")
-        .status()
-        .ok()?;
-    let total = |i: usize| {
-        let text = std::fs::read_to_string(dir.join(format!("counts.{i}"))).ok()?;
-        let line = text.lines().find_map(|l| l.strip_prefix("totals: ").or(l.strip_prefix("summary: ")))?;
-        line.trim().parse::<f64>().ok()
-    };
-    let counts = (0..count)
-        .map(|i| {
-            Some(Figures {
-                linked: total(3 * i + 2)?,
-                model: total(3 * i + 3)?,
-            })
-        })
-        .collect();
-    std::fs::remove_dir_all(&dir).ok()?;
-    done.success().then_some(counts)?
-}
-
-// ---- the page
 
 const CHUNKS: [usize; 6] = [1, 2, 4, 8, 16, 30];
 
@@ -171,6 +35,8 @@ fn sections() -> Vec<(String, Vec<Case>)> {
         let t = with_chunks(n);
         all.push((format!("{n}"), all_stages(&t, &t)));
     }
+    all.push(("locating".to_string(), locating::calls()));
+    all.push(("index".to_string(), locating::steps()));
     all
 }
 
@@ -232,7 +98,7 @@ fn growth(all: &[(String, Vec<Case>)], times: &[Vec<Figures>], counts: &[Vec<Opt
     println!("|---|{}", "---|".repeat(CHUNKS.len()));
     for i in 0..all[2].1.len() {
         print!("| {} |", all[2].1[i].name);
-        for s in 2..all.len() {
+        for s in 2..2 + CHUNKS.len() {
             let t = times[s][i];
             match counts[s][i] {
                 Some(c) => print!(
@@ -251,26 +117,16 @@ fn growth(all: &[(String, Vec<Case>)], times: &[Vec<Figures>], counts: &[Vec<Opt
 
 fn main() {
     let all = sections();
-    let mut answer = [0; 2];
     if std::env::args().any(|a| a == "--once") {
-        for c in all.iter().flat_map(|s| &s.1) {
-            let (mut words, mut tables) = (c.words.clone(), c.tables.clone());
-            mark();
-            let told = measured_linked(&mut words, &c.call, &mut answer);
-            mark();
-            let also = measured_model(&mut tables, &c.call, &mut answer);
-            mark();
-            assert_eq!(told, also);
-        }
-        return;
+        return once(all.iter().flat_map(|s| &s.1));
     }
     let count = all.iter().map(|s| s.1.len()).sum();
     let mut counted = instructions(count).unwrap_or_default().into_iter();
     let counts: Vec<Vec<Option<Figures>>> = all.iter().map(|s| s.1.iter().map(|_| counted.next()).collect()).collect();
-    let times: Vec<Vec<Figures>> = all.iter().map(|s| s.1.iter().map(|c| measure_case(c, 100)).collect()).collect();
+    let times: Vec<Vec<Figures>> = all.iter().map(|s| measure_beside(&s.1, 100)).collect();
 
     println!("# Figures\n");
-    println!("Made by `tests/bench.sh` in one run, on {} with two cores. Rattle is the archive of `crates/host` that `tests/archive.sh` makes for this machine (LLVM at -O3), called through the C boundary; Rust is `rust/model`, the second implementation, built for release (opt-level 3). Both check the shape in every call, that each number lies in its table included; that a mark, a status or a stage is one of its kind is part of Rattle's check, and Rust's typed structs have it for nothing. It is the same program in the rules that it follows, not line for line: an earlier second implementation, with numbers that its types kept in their tables, walked fuller tables with fewer instructions (Rattle 1.17 times as many in the longest state, in 0.71 of its time). A time is the median of {RUNS} runs, the two sides in turn, and a run's is the median of 100 calls, each on the same state restored before it; a ratio is Rattle to Rust, below 1 where Rattle is faster. Instructions are callgrind's, of one call.\n", std::env::consts::ARCH);
+    println!("Made by `tests/bench.sh` in one run, on {} with two cores. Rattle is the archive of `crates/host` that `tests/archive.sh` makes for this machine (LLVM at -O3), called through the C boundary; Rust is `rust/model`, the second implementation, built for release (opt-level 3). Both check the shape in every call, that each number lies in its table included; that a mark, a status or a stage is one of its kind is part of Rattle's check, and Rust's typed structs have it for nothing. It is the same program in the rules that it follows, not line for line: an earlier second implementation, with numbers that its types kept in their tables, walked fuller tables with fewer instructions (Rattle 1.17 times as many in the longest state, in 0.71 of its time). A time is the median of {RUNS} runs, the calls of a section and the two sides in turn within each, and a run's is the median of 100 calls, each on the same state restored before it; a ratio is Rattle to Rust, below 1 where Rattle is faster. Instructions are callgrind's, of one call.\n", std::env::consts::ARCH);
     println!("## A call of each stage\n\n100 keys present, put in random order; the other tasks are idle; the task works on the last key of the last chunk. The downward scan's fill takes the {} entries of the longest list.\n", filled(&all[0].1));
     stage_table(&all[0].1, &times[0], &counts[0]);
     println!("\n## Whole operations\n\nThe start and every step to the end, nobody else at work, over nine present keys (10, 100 and 500 keys put in random order). Put finds its key. A full scan is of all keys, upward and downward.\n");
@@ -279,6 +135,11 @@ fn main() {
     stage_table(&all[1].1, &times[1], &counts[1]);
     println!("\n## With the number of live chunks\n\nChunks of 16 keys, put in ascending order; the other tasks are idle. Rattle's nanoseconds (ratio to Rust); its thousands of instructions (ratio).\n");
     growth(&all, &times, &counts);
+    let at = 2 + CHUNKS.len();
+    locating::calls_page(&times[at], &counts[at]);
+    locating::steps_page(&times[at + 1], &counts[at + 1]);
+    let locates = all[0].1.iter().position(|c| c.name == STAGES[0]).unwrap_or(0);
+    locating::shape_page(&counts[..at].iter().map(|section| [section[0], section[locates]]).collect::<Vec<_>>());
     println!("\n## What they say\n");
     let share = counts[0].iter().zip(&all[0].1).filter(|(_, c)| c.name.starts_with("22"));
     for (count, _) in share {
