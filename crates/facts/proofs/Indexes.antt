@@ -6,7 +6,7 @@ use mathlib.Core.List.{List, [], _∷_, List·Memᴰ·head, List·Memᴰ·tail, 
 use native.Mathlib.Nat.{not-suc-le-zero}
 use native.Mathlib.Omega.{arith}
 use native.Mathlib.Decide.{ℕ-discrete}
-use lib.Dec.{eqb, ltb, leb}
+use lib.Dec.{eqb, ltb}
 use lib.ListN.{length, set, replicate, length-map}
 use borrow.Author.Tests.{lt-ltb, le-ltb, eqb-true}
 use Rattle.rules.specs.declared.Sizes.{Sizes}
@@ -15,7 +15,7 @@ use Rattle.rules.specs.declared.Chunk.{Chunk}
 use Rattle.rules.specs.declared.ChunkNo.{ChunkNo}
 use Rattle.rules.specs.declared.IndexRow.{IndexRow}
 use Rattle.rules.specs.Words.{NONE, chunkNo, noChunk, unused, live, retired, idle, toDrain, toCopy, toSwap, toIndex, toRelease}
-use Rattle.rules.specs.Tables.{Tables, emptyChunk, emptyIndex, emptyRow, chunkAt, chunk, task, withTasks, withDirectory}
+use Rattle.rules.specs.Tables.{Tables, emptyChunk, emptyIndex, emptyRow, chunkAt, chunk, task, withDirectory}
 use Rattle.rules.specs.Walks.{locate, chainFrom, chain, rowOf, over}
 use Rattle.rules.specs.Map.{Ascends}
 use Rattle.rules.specs.Stages
@@ -41,7 +41,7 @@ use Rattle.facts.proofs.Going.{located}
 use Rattle.facts.proofs.Reaching.{call-by, reached-kept, run-reached}
 use Rattle.facts.proofs.Sames.{same-all, same-put}
 use Rattle.facts.proofs.SwapIn.{swap-by}
-use Rattle.facts.proofs.Tasks.{start-by, step-applied}
+use Rattle.facts.proofs.Tasks.{start-by, step-by, step-applied}
 
 -- swap in writes no row of the index
 swap-index : (z : Sizes) (s : Tables) → swapsIn z s .tables .index ≡ s .index
@@ -118,12 +118,10 @@ module _ (z : Sizes) (lim : Limited z) (s : Tables) (kept : Kept z s) where
 
     -- ---- a task
     start-indexed : (n op k a f : ℕ) → Indexed z (starts z s n op k a f .tables)
-    start-indexed n op k a f = start-by z s (Indexed z) i (λ ts. same-left (withTasks s ts) refl refl refl (λ e. e) (same-all (s .chunks))) n op k a f
+    start-indexed n op k a f = start-by z s (Indexed z) i n op k a f (λ _ _ _. same-left _ refl refl refl (λ e. e) (same-all (s .chunks)))
 
     step-indexed : (n : ℕ) → Indexed z (steps z s n .tables)
-    step-indexed n =
-        picked I (leb (z .tasks) n) (λ _. i)
-        (λ _. picked I (eqb (task s n .stage) 0) (λ _. i) (λ _. same-left _ (a .index) (ap (λ (d : Directory). d .indexed) (a .directory)) (ap (λ (d : Directory). d .first) (a .directory)) (λ ne. rw (a .directory) at ne) (a .written .same)))
+    step-indexed n = step-by z s (Indexed z) i n (λ _. same-left _ (a .index) (ap (λ (d : Directory). d .indexed) (a .directory)) (ap (λ (d : Directory). d .first) (a .directory)) (λ ne. rw (a .directory) at ne) (a .written .same))
       where
         a : Applied z (Stages.putOwn z s n (Stages.decide z s n (task s n) .task)) (Stages.apply z (Stages.putOwn z s n (Stages.decide z s n (task s n) .task)) (Stages.decide z s n (task s n) .write))
         a = step-applied z lim s kept n
@@ -254,10 +252,8 @@ module _ (z : Sizes) (lim : Limited z) (s : Tables) (kept : Kept z s) where
 
   does-still : (c : Call) → StillBy (does z s c)
   unfolding does rebalanceDoes
-  does-still (start n op k a f) = start-by z s (λ x. x .directory .stage ≡ toIndex → Still s x) unmoved (λ ts e. record { from = inl e; count = refl; rows = refl }) n op k a f
-  does-still (step n) =
-      picked StillBy (leb (z .tasks) n) (λ _. unmoved)
-      (λ _. picked StillBy (eqb (task s n .stage) 0) (λ _. unmoved) (λ _ e. record { from = inl (ap (λ (d : Directory). d .stage) (sym (a .directory)) ∙ e); count = ap (λ (d : Directory). d .indexed) (a .directory); rows = a .index }))
+  does-still (start n op k a f) = start-by z s (λ x. x .directory .stage ≡ toIndex → Still s x) unmoved n op k a f (λ _ _ _ e. record { from = inl e; count = refl; rows = refl })
+  does-still (step n) = step-by z s (λ x. x .directory .stage ≡ toIndex → Still s x) unmoved n (λ _ e. record { from = inl (ap (λ (d : Directory). d .stage) (sym (a .directory)) ∙ e); count = ap (λ (d : Directory). d .indexed) (a .directory); rows = a .index })
     where
       a : Applied z (Stages.putOwn z s n (Stages.decide z s n (task s n) .task)) (Stages.apply z (Stages.putOwn z s n (Stages.decide z s n (task s n) .task)) (Stages.decide z s n (task s n) .write))
       a = step-applied z lim s kept n

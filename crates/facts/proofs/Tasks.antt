@@ -3,7 +3,7 @@ use Prim.Native.Nat.{ℕ, _<_}
 use mathlib.Core.Path.{_≡_, refl, ap, _∙_}
 use mathlib.Core.Logic.{_≢_}
 use mathlib.Core.Bool.{Bool, true, false, false≢true}
-use mathlib.Core.List.{List, []}
+use mathlib.Core.List.{[]}
 use native.Mathlib.Omega.{arith}
 use native.Mathlib.Decide.{ℕ-discrete}
 use lib.Dec.{eqb, ltb, leb}
@@ -11,11 +11,10 @@ use lib.ListN.{length, getD, set, length-set}
 use lib.Seq.{getD-set-same, getD-set-other}
 use borrow.Author.Tests.{lt-ltb, le-leb, ltb-false, leb-false, eqb-true}
 use Rattle.rules.specs.declared.Sizes.{Sizes}
-use Rattle.rules.specs.declared.Task.{Task}
 use Rattle.rules.specs.declared.ChunkNo.{ChunkNo}
 use Rattle.rules.specs.declared.Decision.{Decision}
 use Rattle.rules.specs.Words.{pick, _and_, _or_, NONE, usesFunction, scan, scanDown, isScan}
-use Rattle.rules.specs.Tables.{Tables, idleTask, withTasks, task, putTask, stack}
+use Rattle.rules.specs.Tables.{Tables, idleTask, task, putTask, stack}
 use Rattle.rules.specs.Stages
 use Rattle.rules.specs.Rebalance.{Outcome}
 use Rattle.rules.specs.Calls.{firstStage, started, starts, steps}
@@ -31,13 +30,21 @@ use Rattle.facts.proofs.Going.{Fine, no-chunk, no-entry}
 use Rattle.facts.proofs.Ends.{decides-fine}
 use Rattle.facts.proofs.Stacking.{same-leaves, none-stacked, stack-empty, stacked-kept, own-stacked}
 
--- what holds of the tables, and with whatever tasks' rows, holds after a start
-pub start-by : (z : Sizes) (s : Tables) (P : Tables → Type 0) → P s → ((ts : List Task) → P (withTasks s ts)) → (n op k a f : ℕ) → P (starts z s n op k a f .tables)
-start-by z s P same put n op k a f =
+-- what holds of the tables, and where an idle task is started, holds after a start
+pub start-by : (z : Sizes) (s : Tables) (P : Tables → Type 0) → P s → (n op k a f : ℕ) →
+    (n < z .tasks → task s n .stage ≡ 0 → (ltb op 1 or ltb 8 op or (usesFunction op and (ltb f 1 or ltb 3 f))) ≡ false → P (putTask s n (started z s op k a f))) → P (starts z s n op k a f .tables)
+start-by z s P same n op k a f put =
     picked O (leb (z .tasks) n) (λ _. same)
-    (λ _. picked O (eqb (task s n .stage) 0)
-    (λ _. picked O (ltb op 1 or ltb 8 op or (usesFunction op and (ltb f 1 or ltb 3 f))) (λ _. same) (λ _. picked O (isScan op and ltb a k) (λ _. same) (λ _. put _)))
+    (λ b. picked O (eqb (task s n .stage) 0)
+    (λ e. picked O (ltb op 1 or ltb 8 op or (usesFunction op and (ltb f 1 or ltb 3 f))) (λ _. same) (λ ok. picked O (isScan op and ltb a k) (λ _. same) (λ _. put (leb-false _ _ b) (eqb-true _ _ e) ok)))
     (λ _. same))
+  where
+    O : Outcome → Type 0
+    O o = P (o .tables)
+
+-- and of the tables, and where the task's stage is done, after a step
+pub step-by : (z : Sizes) (s : Tables) (P : Tables → Type 0) → P s → (n : ℕ) → (n < z .tasks → P (Stages.apply z (Stages.putOwn z s n (Stages.decide z s n (task s n) .task)) (Stages.decide z s n (task s n) .write))) → P (steps z s n .tables)
+step-by z s P same n then-done = picked O (leb (z .tasks) n) (λ _. same) (λ b. picked O (eqb (task s n .stage) 0) (λ _. same) (λ _. then-done (leb-false _ _ b)))
   where
     O : Outcome → Type 0
     O o = P (o .tables)
@@ -80,12 +87,10 @@ module _ (z : Sizes) (lim : Limited z) (s : Tables) (kept : Kept z s) where
         others m ne i = rw (getD-set-other (s .tasks) n m (x .task) idleTask ne, getD-set-other (s .stacks) n m (Stages.stackThen z s (task s n) n) [] ne) (stacked-kept z lim s kept s′ m (done-leaves (task s m .chunk)) i)
 
   pub step-leaves : (n : ℕ) (c : ChunkNo) → Leaves z s (steps z s n .tables) c
-  step-leaves n c = picked (λ (o : Outcome). Leaves z s (o .tables) c) (leb (z .tasks) n) (λ _. same-leaves z s c) (λ _. picked (λ (o : Outcome). Leaves z s (o .tables) c) (eqb (task s n .stage) 0) (λ _. same-leaves z s c) (λ _. done-leaves n c))
+  step-leaves n c = step-by z s (λ x. Leaves z s x c) (same-leaves z s c) n (λ _. done-leaves n c)
 
   pub step-kept : (n : ℕ) → Kept z (steps z s n .tables)
-  step-kept n =
-      picked (λ (o : Outcome). Kept z (o .tables)) (leb (z .tasks) n) (λ _. kept)
-      (λ b. picked (λ (o : Outcome). Kept z (o .tables)) (eqb (task s n .stage) 0) (λ _. kept) (λ _. step-done n (leb-false _ _ b)))
+  step-kept n = step-by z s (Kept z) kept n (step-done n)
 
   -- ---- a start
   module _ (n op k a f : ℕ) (ok : (ltb op 1 or ltb 8 op or (usesFunction op and (ltb f 1 or ltb 3 f))) ≡ false) where
@@ -126,19 +131,11 @@ module _ (z : Sizes) (lim : Limited z) (s : Tables) (kept : Kept z s) where
         first-holds n c is fits = rw is (record { fits = fits; function = started-function; chunk = c; entry = refl; old = refl; new = refl; published = refl; swapped = refl })
 
   pub start-leaves : (n op k a f : ℕ) (c : ChunkNo) → Leaves z s (starts z s n op k a f .tables) c
-  start-leaves n op k a f c = start-by z s (λ x. Leaves z s x c) (same-leaves z s c) (λ ts. record { tasked = λ t _ r. r; min = λ _. refl }) n op k a f
+  start-leaves n op k a f c = start-by z s (λ x. Leaves z s x c) (same-leaves z s c) n op k a f (λ _ _ _. record { tasked = λ t _ r. r; min = λ _. refl })
 
   pub start-kept : (n op k a f : ℕ) → Kept z (starts z s n op k a f .tables)
-  start-kept n op k a f =
-      picked K (leb (z .tasks) n) (λ _. kept)
-      (λ _. picked K (eqb (task s n .stage) 0)
-      (λ idle. picked K (ltb op 1 or ltb 8 op or (usesFunction op and (ltb f 1 or ltb 3 f))) (λ _. kept)
-      (λ ok. picked K (isScan op and ltb a k) (λ _. kept) (λ _. put (eqb-true _ _ idle) ok)))
-      (λ _. kept))
+  start-kept n op k a f = start-by z s (Kept z) kept n op k a f (λ _. put)
     where
-      K : Outcome → Type 0
-      K o = Kept z (o .tables)
-
       put : task s n .stage ≡ 0 → (ltb op 1 or ltb 8 op or (usesFunction op and (ltb f 1 or ltb 3 f))) ≡ false → Kept z (putTask s n (started z s op k a f))
       put idle ok =
           record {

@@ -8,7 +8,6 @@ use native.Mathlib.Omega.{arith}
 use lib.Dec.{eqb, ltb, leb}
 use lib.ListN.{length, getD, set}
 use lib.Seq.{getD-set-same, getD-set-other, set-out}
-use borrow.Author.Tests.{leb-false}
 use Rattle.rules.specs.declared.Sizes.{Sizes}
 use Rattle.rules.specs.declared.Directory.{Directory}
 use Rattle.rules.specs.declared.Task.{Task}
@@ -19,7 +18,7 @@ use Rattle.rules.specs.declared.HandleNo.{HandleNo}
 use Rattle.rules.specs.declared.Write.{Write}
 use Rattle.rules.specs.declared.Write.the-variants as write
 use Rattle.rules.specs.declared.Decision.{Decision}
-use Rattle.rules.specs.Words.{_and_, _or_, NONE, entryNo, noEntry, noHandle, usesFunction, isScan, idle, toDrain, toCopy, toSwap, toIndex, toRelease}
+use Rattle.rules.specs.Words.{NONE, entryNo, noEntry, noHandle, idle, toDrain, toCopy, toSwap, toIndex, toRelease}
 use Rattle.rules.specs.Tables.{Tables, idleTask, emptyEntry, row, chunk, entry, task, putTask, withDirectory}
 use Rattle.rules.specs.Stages
 use Rattle.rules.specs.Rebalance.{Outcome, unusedCount, publishedOn, heldChunk, begins, copies, swapsIn, releases, rebalanceDoes, atRest}
@@ -31,9 +30,8 @@ use Rattle.statements.specs.Runs.{tablesAt}
 use Rattle.statements.specs.Sound.{Limited, HoldsHandle, HandsOut}
 use Rattle.facts.specs.Facts.{Kept}
 use Rattle.facts.proofs.SwapIn.{swap-by}
-use Rattle.facts.proofs.Applying.{applied-by}
-use Rattle.facts.proofs.Ends.{decides-fine}
 use Rattle.facts.proofs.Copying.{copy-by}
+use Rattle.facts.proofs.Tasks.{start-by, step-by, step-applied}
 use Rattle.facts.proofs.Reaching.{call-by, reached-kept, run-reached}
 use Rattle.handles.proofs.Naming.{Passes, put}
 use Rattle.handles.proofs.Passing.{NamesRight, decides-pass}
@@ -91,23 +89,13 @@ module _ (z : Sizes) (lim : Limited z) (s : Tables) (kept : Kept z s) where
       go (inr q) = inl (row ∙ q .1)
 
   step-turns : (n : ℕ) → Turns (steps z s n .tables)
-  step-turns n =
-      picked (λ (o : Outcome). Turns (o .tables)) (leb (z .tasks) n) (λ _. same-turns s refl)
-      (λ b. picked (λ (o : Outcome). Turns (o .tables)) (eqb (task s n .stage) 0) (λ _. same-turns s refl) (λ _. put-turns (Stages.apply z (Stages.putOwn z s n (x .task)) (x .write)) n (x .task) (leb-false _ _ b) (applied-by z lim (Stages.putOwn z s n (x .task)) (kept .tables) (x .write) (decides-fine z lim s (kept .tables) (task s n) (kept .tasks n) n .allowed) .tasks) (decides-pass z lim s (kept .tables) n (kept .tasks n) .passes)))
+  step-turns n = step-by z s Turns (same-turns s refl) n (λ b. put-turns (Stages.apply z (Stages.putOwn z s n (x .task)) (x .write)) n (x .task) b (step-applied z lim s kept n .tasks) (decides-pass z lim s (kept .tables) n (kept .tasks n) .passes))
     where
       x : Decision
       x = Stages.decide z s n (task s n)
 
   start-turns : (n op k a f : ℕ) → Turns (starts z s n op k a f .tables)
-  start-turns n op k a f =
-      picked O (leb (z .tasks) n) (λ _. same-turns s refl)
-      (λ b. picked O (eqb (task s n .stage) 0)
-      (λ _. picked O (ltb op 1 or ltb 8 op or (usesFunction op and (ltb f 1 or ltb 3 f))) (λ _. same-turns s refl)
-      (λ _. picked O (isScan op and ltb a k) (λ _. same-turns s refl) (λ _. put-turns (putTask s n (started z s op k a f)) n (started z s op k a f) (leb-false _ _ b) refl (record { old = inl refl; new = inl refl }))))
-      (λ _. same-turns s refl))
-    where
-      O : Outcome → Type 0
-      O o = Turns (o .tables)
+  start-turns n op k a f = start-by z s Turns (same-turns s refl) n op k a f (λ b _ _. put-turns (putTask s n (started z s op k a f)) n (started z s op k a f) b refl (record { old = inl refl; new = inl refl }))
 
   pub does-turns : (c : Call) → Turns (does z s c .tables)
   unfolding does

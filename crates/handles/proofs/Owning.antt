@@ -19,7 +19,7 @@ use Rattle.rules.specs.declared.EntryNo.{EntryNo}
 use Rattle.rules.specs.declared.Decision.{Decision}
 use Rattle.rules.specs.declared.Write.{Write}
 use Rattle.rules.specs.declared.Write.the-variants as write
-use Rattle.rules.specs.Words.{_and_, _or_, NONE, entryNo, noHandle, noEntry, noChunk, usesFunction, isScan, idle, toDrain, toCopy, toSwap, toIndex, toRelease}
+use Rattle.rules.specs.Words.{NONE, entryNo, noHandle, noEntry, noChunk, idle, toDrain, toCopy, toSwap, toIndex, toRelease}
 use Rattle.rules.specs.Tables.{Tables, idleTask, emptyChunk, emptyEntry, withDirectory, withChunks, withEntries, chunk, entryAt, entry, task, putTask, putChunk, row}
 use Rattle.rules.specs.Walks.{linked}
 use Rattle.rules.specs.Stages
@@ -41,6 +41,7 @@ use Rattle.facts.proofs.Ends.{decides-fine}
 use Rattle.facts.proofs.Writes.{same-chunk, inside}
 use Rattle.facts.proofs.Copying
 use Rattle.facts.proofs.Making.{newRow}
+use Rattle.facts.proofs.Tasks.{start-by, step-by}
 use Rattle.handles.specs.Owned.{Row, NamedUnder, Unnamed, NewOwn, Owned, Sourced}
 use Rattle.handles.proofs.Naming.{put, sourced-same, sourced-owned, named-owned, name-none, old-not, task-owned}
 use Rattle.handles.proofs.Passing.{NamesRight, Passed, decides-pass}
@@ -163,20 +164,10 @@ module _ (z : Sizes) (lim : Limited z) (s : Tables) (kept : Kept z s) (own : Own
           other m u (inr e) q = o .not-new m (e .0) (sym (ap (λ (t : Task). t .new .0) (e .1)) ∙ q)
 
   pub step-owned : (n : ℕ) → OwnedBy z (steps z s n .tables)
-  step-owned n =
-      picked (λ (o : Outcome). OwnedBy z (o .tables)) (leb (z .tasks) n) (λ _. own)
-      (λ b. picked (λ (o : Outcome). OwnedBy z (o .tables)) (eqb (task s n .stage) 0) (λ _. own) (λ _. step-done n (leb-false _ _ b) (Stages.decide z s n (task s n)) (decides-fine z lim s (kept .tables) (task s n) (kept .tasks n) n) (decides-pass z lim s (kept .tables) n (kept .tasks n))))
+  step-owned n = step-by z s (OwnedBy z) own n (λ b. step-done n b (Stages.decide z s n (task s n)) (decides-fine z lim s (kept .tables) (task s n) (kept .tasks n) n) (decides-pass z lim s (kept .tables) n (kept .tasks n)))
 
   pub start-owned : (n op k a f : ℕ) → OwnedBy z (starts z s n op k a f .tables)
-  start-owned n op k a f =
-      picked O (leb (z .tasks) n) (λ _. own)
-      (λ b. picked O (eqb (task s n .stage) 0)
-      (λ _. picked O (ltb op 1 or ltb 8 op or (usesFunction op and (ltb f 1 or ltb 3 f))) (λ _. own)
-      (λ _. picked O (isScan op and ltb a k) (λ _. own) (λ _. task-owned z (lim .handles) (s .entries) (task s) (task (putTask s n (started z s op k a f))) n (started z s op k a f) (put-tasks z (s .tasks) n (started z s op k a f) (rw (kept .tasks-sized) (leb-false _ _ b))) own (record { old = inl refl; new = inl refl }))))
-      (λ _. own))
-    where
-      O : Outcome → Type 0
-      O o = OwnedBy z (o .tables)
+  start-owned n op k a f = start-by z s (OwnedBy z) own n op k a f (λ b _ _. task-owned z (lim .handles) (s .entries) (task s) (task (putTask s n (started z s op k a f))) n (started z s op k a f) (put-tasks z (s .tasks) n (started z s op k a f) (rw (kept .tasks-sized) b)) own (record { old = inl refl; new = inl refl }))
 
   -- ---- the rebalance
   pub begin-owned : (k : ℕ) → OwnedBy z (begins z s k .tables)

@@ -33,7 +33,7 @@ use Rattle.facts.proofs.Numbers.{holding}
 use Rattle.facts.proofs.Covering.{only}
 use Rattle.facts.proofs.SwapIn.{swap-by}
 use Rattle.facts.proofs.Copying.{copy-by}
-use Rattle.facts.proofs.Tasks.{start-by}
+use Rattle.facts.proofs.Tasks.{start-by, step-by}
 use Rattle.facts.proofs.Reaching.{reached-kept}
 use Rattle.holds.proofs.Shaped.{calls-does}
 use Rattle.handles.proofs.Handing.{rebalance-tasks, begin-tasks}
@@ -120,10 +120,6 @@ module _ (z : Sizes) (lim : Limited z) (s : Tables) (r : Reached z s) where
   abbrev k₀ : Kept z s
   k₀ = reached-kept z lim r
 
-  -- what holds of the tables, and where the task's stage is done, holds after a step
-  step-by : (P : Tables → Type 0) → P s → (n : ℕ) → P (s′ z lim s k₀ n) → P (steps z s n .tables)
-  step-by P same n then-done = picked (λ (o : Outcome). P (o .tables)) (leb (z .tasks) n) (λ _. same) (λ _. picked (λ (o : Outcome). P (o .tables)) (eqb (task s n .stage) 0) (λ _. same) (λ _. then-done))
-
   -- an undeleted handle that a live chunk names stays named so
   module _ (h k : ℕ) (i : h < z .handles) (m : getD (s .marks) h 0 ≡ 0) (v : LiveNamed z (s .chunks) (s .entries) h k) where
     abbrev LiveIn : Tables → Type 0
@@ -131,8 +127,8 @@ module _ (z : Sizes) (lim : Limited z) (s : Tables) (r : Reached z s) where
 
     does-live : (c : Call) → LiveIn (does z s c .tables)
     unfolding does
-    does-live (start n op k a f) = start-by z s LiveIn v (λ _. v) n op k a f
-    does-live (step n) = step-by LiveIn v n (live-on z lim s k₀ n (reached-marked z lim r) h k i m v)
+    does-live (start n op k a f) = start-by z s LiveIn v n op k a f (λ _ _ _. v)
+    does-live (step n) = step-by z s LiveIn v n (λ _. live-on z lim s k₀ n (reached-marked z lim r) h k i m v)
     does-live (begin j) = begin-moves z lim s k₀ (reached-owned z lim r) (reached-held z lim r) (reached-unlinked z lim r) (reached-copied z lim r) j .0 .to h k i v
     does-live rebalance = rebalance-moves z lim s k₀ (reached-owned z lim r) (reached-held z lim r) (reached-unlinked z lim r) (reached-copied z lim r) .0 .to h k i v
 
@@ -146,8 +142,8 @@ module _ (z : Sizes) (lim : Limited z) (s : Tables) (r : Reached z s) where
 
     does-value : (c : Call) → ValueIn (does z s c .tables)
     unfolding does
-    does-value (start m op k a f) = start-by z s ValueIn refl (λ _. refl) m op k a f
-    does-value (step m) = step-by ValueIn refl m (deleted-same z lim s k₀ (set (s .tasks) m (Stages.decide z s m (task s m) .task)) _ m (reached-owned z lim r) (acts z lim s k₀ m) n d)
+    does-value (start m op k a f) = start-by z s ValueIn refl m op k a f (λ _ _ _. refl)
+    does-value (step m) = step-by z s ValueIn refl m (λ _. deleted-same z lim s k₀ (set (s .tasks) m (Stages.decide z s m (task s m) .task)) _ m (reached-owned z lim r) (acts z lim s k₀ m) n d)
     does-value (begin k) = ap (λ (l : List ℕ). getD l (task s n .old .0) 0) (begin-tasks z s k .1)
     does-value rebalance = ap (λ (l : List ℕ). getD l (task s n .old .0) 0) (rebalance-tasks z s .1)
 
@@ -163,7 +159,7 @@ module _ (z : Sizes) (lim : Limited z) (s : Tables) (r : Reached z s) where
     StaysBy o = Stays (o .tables)
 
     step-stays : (n : ℕ) → Stays (steps z s n .tables)
-    step-stays n = step-by Stays (λ _ _. v) n (λ _ q. kept-to z (s .entries) (s′ z lim s k₀ n .entries) f (rows q) i v)
+    step-stays n = step-by z s Stays (λ _ _. v) n (λ _ _ q. kept-to z (s .entries) (s′ z lim s k₀ n .entries) f (rows q) i v)
       where
         not-there : chunkAt (s′ z lim s k₀ n .chunks) f .status ≡ retired → task s n .published ≡ 1 → f ≢ task s n .chunk
         not-there q p e = omega (arith, sym (same-status z lim s k₀ n f) ∙ q, ap (λ (c : ChunkNo). chunk s c .status) e ∙ reached-held z lim r .publisher-live n p .isLive)
@@ -186,7 +182,7 @@ module _ (z : Sizes) (lim : Limited z) (s : Tables) (r : Reached z s) where
 
     does-stays : (c : Call) → Stays (does z s c .tables)
     unfolding does rebalanceDoes
-    does-stays (start n op k a g) = start-by z s Stays (λ _ _. v) (λ _ _ _. v) n op k a g
+    does-stays (start n op k a g) = start-by z s Stays (λ _ _. v) n op k a g (λ _ _ _ _ _. v)
     does-stays (step n) = step-stays n
     does-stays (begin j) = picked StaysBy (eqb (s .directory .stage) idle) (λ _. picked StaysBy (ltb (unusedCount (s .chunks)) 2) (λ _ _ _. v) (λ _ _ _. v)) (λ _ _ _. v)
     does-stays rebalance =

@@ -8,14 +8,14 @@ use native.Mathlib.Decide.{ℕ-discrete}
 use native.Mathlib.Omega.{arith}
 use lib.Dec.{eqb, ltb, leb}
 use lib.ListN.{getD, set}
-use borrow.Author.Tests.{leb-false, eqb-true, eq-eqb}
+use borrow.Author.Tests.{eqb-true, eq-eqb}
 use Rattle.rules.specs.declared.Sizes.{Sizes}
 use Rattle.rules.specs.declared.Directory.{Directory}
 use Rattle.rules.specs.declared.Task.{Task}
 use Rattle.rules.specs.declared.Chunk.{Chunk}
 use Rattle.rules.specs.declared.ChunkNo.{ChunkNo}
 use Rattle.rules.specs.declared.Decision.{Decision}
-use Rattle.rules.specs.Words.{_and_, _or_, chunkNo, unused, live, new, retired, usesFunction, isScan, idle, toDrain, toCopy, toSwap, toIndex, toRelease}
+use Rattle.rules.specs.Words.{_and_, chunkNo, unused, live, new, retired, idle, toDrain, toCopy, toSwap, toIndex, toRelease}
 use Rattle.rules.specs.Tables.{Tables, idleTask, emptyChunk, chunkAt, chunk, task, putTask, withDirectory}
 use Rattle.rules.specs.Walks.{locate}
 use Rattle.rules.specs.Stages
@@ -36,6 +36,7 @@ use Rattle.facts.proofs.SwapIn.{swap-by}
 use Rattle.facts.proofs.Copying
 use Rattle.facts.proofs.Copying.{copy-by}
 use Rattle.facts.proofs.Reaching.{call-by, reached-kept}
+use Rattle.facts.proofs.Tasks.{start-by, step-by}
 use Rattle.handles.proofs.Owning.{put-tasks}
 use Rattle.handles.proofs.Handing.{swap-tasks}
 use Rattle.holds.specs.Held.{PublisherLive, Held}
@@ -130,21 +131,11 @@ module _ (z : Sizes) (lim : Limited z) (s : Tables) (kept : Kept z s) (held : He
           at = ⊎-elim (λ r. held .publisher-live n r) newly (w .1)
 
   step-held : (n : ℕ) → Held z (steps z s n .tables)
-  step-held n =
-      picked (λ (o : Outcome). Held z (o .tables)) (leb (z .tasks) n) (λ _. held)
-      (λ b. picked (λ (o : Outcome). Held z (o .tables)) (eqb (task s n .stage) 0) (λ _. held) (λ _. step-done n (leb-false _ _ b)))
+  step-held n = step-by z s (Held z) held n (λ b. step-done n b)
 
   start-held : (n op k a f : ℕ) → Held z (starts z s n op k a f .tables)
-  start-held n op k a f =
-      picked O (leb (z .tasks) n) (λ _. held)
-      (λ b. picked O (eqb (task s n .stage) 0)
-      (λ _. picked O (ltb op 1 or ltb 8 op or (usesFunction op and (ltb f 1 or ltb 3 f))) (λ _. held)
-      (λ _. picked O (isScan op and ltb a k) (λ _. held) (λ _. one-row (putTask s n (started z s op k a f)) n (started z s op k a f) (leb-false _ _ b) refl (λ p. absurd (never p)) (held .publisher-live))))
-      (λ _. held))
+  start-held n op k a f = start-by z s (Held z) held n op k a f (λ b _ _. one-row (putTask s n (started z s op k a f)) n (started z s op k a f) b refl (λ p. absurd (never p)) (held .publisher-live))
     where
-      O : Outcome → Type 0
-      O o = Held z (o .tables)
-
       never : _≡_ {A = ℕ} 0 1 → ⊥
       never p = omega arith
 

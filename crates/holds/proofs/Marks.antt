@@ -5,30 +5,28 @@ use mathlib.Core.Logic.{_⊎_, inl, inr, ⊎-elim, _≢_}
 use mathlib.Core.List.{List}
 use native.Mathlib.Decide.{ℕ-discrete, decLt}
 use native.Mathlib.Omega.{arith}
-use lib.Dec.{eqb, ltb, leb}
+use lib.Dec.{ltb}
 use lib.ListN.{length, getD, set}
 use lib.Seq.{getD-set-same, getD-set-other, set-out}
-use borrow.Author.Tests.{leb-false}
 use Rattle.rules.specs.declared.Sizes.{Sizes}
 use Rattle.rules.specs.declared.EntryNo.{EntryNo}
 use Rattle.rules.specs.declared.Task.{Task}
 use Rattle.rules.specs.declared.Decision.{Decision}
 use Rattle.rules.specs.declared.Write.{Write}
 use Rattle.rules.specs.declared.Write.the-variants as write
-use Rattle.rules.specs.Words.{_and_, _or_, NONE, usesFunction, isScan}
+use Rattle.rules.specs.Words.{NONE}
 use Rattle.rules.specs.Tables.{Tables, idleTask, withOwn, task, putTask}
 use Rattle.rules.specs.Stages
-use Rattle.rules.specs.Rebalance.{Outcome}
 use Rattle.rules.specs.Calls.{Call, fresh, started, starts, steps, does}
 use Rattle.rules.specs.Calls.Call.{start, step, begin, rebalance}
 use Rattle.laws.proofs.Tests.{picked}
 use Rattle.statements.specs.Sound.{Limited}
 use Rattle.facts.specs.Facts.{Kept}
 use Rattle.facts.specs.Reached.{Reached}
-use Rattle.facts.proofs.Applying.{Applied, applied-by}
-use Rattle.facts.proofs.Ends.{decides-fine}
+use Rattle.facts.proofs.Applying.{Applied}
 use Rattle.facts.proofs.Fresh.{getD-all}
 use Rattle.facts.proofs.Reaching.{call-by, reached-kept}
+use Rattle.facts.proofs.Tasks.{start-by, step-by, step-applied}
 use Rattle.handles.proofs.Owning.{OwnedBy, put-tasks}
 use Rattle.handles.proofs.Keys.{reached-owned}
 use Rattle.handles.proofs.Handing.{rebalance-tasks, begin-tasks}
@@ -73,10 +71,7 @@ module _ (z : Sizes) (lim : Limited z) (s : Tables) (kept : Kept z s) (own : Own
       both m = rw (ap (λ (ts : List Task). getD ts m idleTask) e) (⊎-elim (λ (v : (m ≡ n) × (getD (set (s .tasks) n t) m idleTask ≡ t)). rw (v .1) (o, w)) (λ (v : (m ≢ n) × (getD (set (s .tasks) n t) m idleTask ≡ task s m)). rw (v .1) (others m (v .0))) (put-tasks z (s .tasks) n t (rw (kept .tasks-sized) b) m))
 
   step-marked : (n : ℕ) → Marked z (steps z s n .tables)
-  step-marked n =
-      picked (λ (o : Outcome). Marked z (o .tables)) (leb (z .tasks) n) (λ _. marked)
-      (λ b. picked (λ (o : Outcome). Marked z (o .tables)) (eqb (task s n .stage) 0) (λ _. marked)
-      (λ _. one-row (Stages.apply z (Stages.putOwn z s n (x .task)) (x .write)) n (x .task) (leb-false _ _ b) (a .tasks) (d .old (set (s .tasks) n (x .task)) _) (d .new (set (s .tasks) n (x .task)) _) (λ m ne. (old-then n (set (s .tasks) n (x .task)) _ m ne (x .write) (d .touches), new-then n (set (s .tasks) n (x .task)) _ m ne (x .write) (d .touches)))))
+  step-marked n = step-by z s (Marked z) marked n (λ b. one-row (Stages.apply z (Stages.putOwn z s n (x .task)) (x .write)) n (x .task) b (a .tasks) (d .old (set (s .tasks) n (x .task)) _) (d .new (set (s .tasks) n (x .task)) _) (λ m ne. (old-then n (set (s .tasks) n (x .task)) _ m ne (x .write) (d .touches), new-then n (set (s .tasks) n (x .task)) _ m ne (x .write) (d .touches))))
     where
       x : Decision
       x = Stages.decide z s n (task s n)
@@ -85,19 +80,11 @@ module _ (z : Sizes) (lim : Limited z) (s : Tables) (kept : Kept z s) (own : Own
       d = decides-marks z lim s kept marked n
 
       a : Applied z (Stages.putOwn z s n (x .task)) (Stages.apply z (Stages.putOwn z s n (x .task)) (x .write))
-      a = applied-by z lim (Stages.putOwn z s n (x .task)) (kept .tables) (x .write) (decides-fine z lim s (kept .tables) (task s n) (kept .tasks n) n .allowed)
+      a = step-applied z lim s kept n
 
   start-marked : (n op k a f : ℕ) → Marked z (starts z s n op k a f .tables)
-  start-marked n op k a f =
-      picked O (leb (z .tasks) n) (λ _. marked)
-      (λ b. picked O (eqb (task s n .stage) 0)
-      (λ _. picked O (ltb op 1 or ltb 8 op or (usesFunction op and (ltb f 1 or ltb 3 f))) (λ _. marked)
-      (λ _. picked O (isScan op and ltb a k) (λ _. marked) (λ _. one-row (putTask s n (started z s op k a f)) n (started z s op k a f) (leb-false _ _ b) refl (λ _ _ i. absurd (out i)) (λ i. absurd (out i)) (λ m _. (marked .old-deleted m, marked .new-written m)))))
-      (λ _. marked))
+  start-marked n op k a f = start-by z s (Marked z) marked n op k a f (λ b _ _. one-row (putTask s n (started z s op k a f)) n (started z s op k a f) b refl (λ _ _ i. absurd (out i)) (λ i. absurd (out i)) (λ m _. (marked .old-deleted m, marked .new-written m)))
     where
-      O : Outcome → Type 0
-      O o = Marked z (o .tables)
-
       out : NONE < z .handles → ⊥
       out b = omega (arith, lim .handles)
 

@@ -22,7 +22,7 @@ use Rattle.rules.specs.declared.EntryNo.{EntryNo}
 use Rattle.rules.specs.declared.Decision.{Decision}
 use Rattle.rules.specs.declared.Write.{Write}
 use Rattle.rules.specs.declared.Write.the-variants as write
-use Rattle.rules.specs.Words.{_and_, _or_, NONE, entryNo, noChunk, noHandle, noEntry, unused, usesFunction, isScan, idle, toDrain, toCopy, toSwap, toIndex, toRelease}
+use Rattle.rules.specs.Words.{NONE, entryNo, noChunk, noHandle, noEntry, unused, idle, toDrain, toCopy, toSwap, toIndex, toRelease}
 use Rattle.rules.specs.Tables.{Tables, emptyChunk, emptyEntry, chunkAt, chunk, entryAt, entry, row, task, putChunk, withOwn, withDirectory, withChunks, withEntries}
 use Rattle.rules.specs.Walks.{locate, linked, listFrom}
 use Rattle.rules.specs.Stages
@@ -35,7 +35,7 @@ use Rattle.views.proofs.Copies.{fill-is, clears-is, cleared-other, cleared-here
 use Rattle.statements.specs.Sound.{Limited}
 use Rattle.facts.specs.Facts.{listed, Waits, Allowed, Kept}
 use Rattle.facts.specs.Reached.{Reached}
-use Rattle.facts.proofs.Applying.{Applied, applied-by}
+use Rattle.facts.proofs.Applying.{Applied}
 use Rattle.facts.proofs.Ends.{decides-fine}
 use Rattle.facts.proofs.Fresh.{getD-all}
 use Rattle.facts.proofs.Writes.{same-chunk}
@@ -48,6 +48,7 @@ use Rattle.laws.specs.Counts.{Every}
 use Rattle.facts.specs.Swapped.{beforeOld}
 use Rattle.facts.proofs.SwapIn.{swap-by}
 use Rattle.facts.proofs.Reaching.{call-by, reached-kept}
+use Rattle.facts.proofs.Tasks.{start-by, step-by, step-applied}
 use Rattle.holds.specs.Unlinked.{UnlinkedNone}
 use Rattle.holds.proofs.Publishing.{NamesLinked, decides-publish}
 
@@ -140,26 +141,16 @@ module _ (z : Sizes) (lim : Limited z) (s : Tables) (kept : Kept z s) (un : Unli
     names-then (write.Name d f h) a m = entry-put z (s .entries) d f (Stages.withHandle (entry z s d f) h) c e Was len (a .0) (le-trans (a .1) (kept .tables .lists d (a .0) .row .used)) be (λ p q _. rw p (Memᴰ·cast q m)) (λ _. as-it-was)
 
   step-unlinked : (n : ℕ) → UnlinkedIn (steps z s n .tables)
-  step-unlinked n =
-      picked (λ (o : Outcome). UnlinkedIn (o .tables)) (leb (z .tasks) n) (λ _. un)
-      (λ _. picked (λ (o : Outcome). UnlinkedIn (o .tables)) (eqb (task s n .stage) 0) (λ _. un)
-      (λ _ c e b be i. a .written .members c e b (names-then (set (s .tasks) n (x .task)) _ c e b be (x .write) (decides-fine z lim s (kept .tables) (task s n) (kept .tasks n) n .allowed) (decides-publish z s (task s n) (kept .tasks n) n .names) i)))
+  step-unlinked n = step-by z s UnlinkedIn un n (λ _ c e b be i. a .written .members c e b (names-then (set (s .tasks) n (x .task)) _ c e b be (x .write) (decides-fine z lim s (kept .tables) (task s n) (kept .tasks n) n .allowed) (decides-publish z s (task s n) (kept .tasks n) n .names) i))
     where
       x : Decision
       x = Stages.decide z s n (task s n)
 
       a : Applied z (Stages.putOwn z s n (x .task)) (Stages.apply z (Stages.putOwn z s n (x .task)) (x .write))
-      a = applied-by z lim (Stages.putOwn z s n (x .task)) (kept .tables) (x .write) (decides-fine z lim s (kept .tables) (task s n) (kept .tasks n) n .allowed)
+      a = step-applied z lim s kept n
 
   start-unlinked : (n op k a f : ℕ) → UnlinkedIn (starts z s n op k a f .tables)
-  start-unlinked n op k a f =
-      picked O (leb (z .tasks) n) (λ _. un)
-      (λ b. picked O (eqb (task s n .stage) 0)
-      (λ _. picked O (ltb op 1 or ltb 8 op or (usesFunction op and (ltb f 1 or ltb 3 f))) (λ _. un) (λ _. picked O (isScan op and ltb a k) (λ _. un) (λ _. un)))
-      (λ _. un))
-    where
-      O : Outcome → Type 0
-      O o = UnlinkedIn (o .tables)
+  start-unlinked n op k a f = start-by z s UnlinkedIn un n op k a f (λ _ _ _. un)
 
   -- ---- the rebalance
   -- the entries are as they were, and every chunk's head

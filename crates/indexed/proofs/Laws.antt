@@ -14,10 +14,10 @@ use Rattle.rules.specs.declared.Chunk.{Chunk}
 use Rattle.rules.specs.declared.IndexRow.{IndexRow}
 use Rattle.rules.specs.Words.{_and_}
 use Rattle.rules.specs.Shape.{each, isEmptyRow, namesChunk, rowsAscend, indexRight}
-use Rattle.rows.specs.Rows.{rowsFrom, directoryOf, indexOf, chunkRows}
+use Rattle.rows.specs.Rows.{rowsFrom, directoryOf, indexOf, chunkRows, charted}
 use Rattle.rows.proofs.Laws.{length-rows}
 use Rattle.listed.proofs.Tests.{both-fail, both-hold}
-use Rattle.indexed.specs.Charts.{charted, emptyFrom, FirstRight}
+use Rattle.indexed.specs.Charts.{emptyFrom, FirstRight}
 
 module _ (z : Sizes) (cs : List Chunk) where
   past : (k i : ℕ) (l : List IndexRow) → rowsAscend z cs 0 k l ≡ each (λ n x. isEmptyRow x) i l

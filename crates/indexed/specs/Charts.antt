@@ -1,21 +1,16 @@
 -- The index asked row by row (document 02, E3).
 use Prim.Native.Nat.{ℕ, _+_, _*_, _-_}
 use mathlib.Core.Bool.{Bool}
-use mathlib.Core.List.{List, []}
+use mathlib.Core.List.{List}
 use mathlib.Core.Path.{_≡_}
 use lib.ListN.{length}
 use Rattle.rules.specs.declared.Sizes.{Sizes}
 use Rattle.rules.specs.Words.{_and_}
-use Rattle.rules.specs.Tables.{Tables}
 use Rattle.rules.specs.Shape.{each, isEmptyRow, rowsAscend}
-use Rattle.rows.specs.Rows.{rowsFrom, tables, chunkRows, indexOf, indexRows}
-
--- tables of which the directory's words and the chunks alone are asked
-abbrev pub charted : Sizes → List ℕ → List ℕ → Tables
-charted z d cs = tables z d [] cs [] [] []
+use Rattle.rows.specs.Rows.{rowsFrom, chunkRows, indexOf, indexRows}
 
 -- the two tables are as long as the sizes ask
-pub record Chart (z : Sizes) (d cs : List ℕ) : Type 0 where
+pub record Long (z : Sizes) (d cs : List ℕ) : Type 0 where
   pub directory : length d ≡ 6 + z .chunks * 2
   pub chunks : length cs ≡ z .chunks * 6
 

@@ -6,8 +6,8 @@ ghost use mathlib.Core.Path.{_≡_};
 ghost use Prim.Native.Nat.{_+_, _*_, _≤_};
 ghost use lib.ListN.{length};
 ghost use Rattle.rules.specs.Shape.{isEmptyRow, namesChunk, indexRight};
-ghost use Rattle.rows.specs.Rows.{chunkRows};
-ghost use Rattle.indexed.specs.Charts.{charted, Chart, emptyFrom, FirstRight};
+ghost use Rattle.rows.specs.Rows.{chunkRows, charted};
+ghost use Rattle.indexed.specs.Charts.{Long, emptyFrom, FirstRight};
 
 // A row past the count.
 fn is_empty_row(x: IndexRow) -> bool
@@ -31,7 +31,7 @@ fn names_chunk(z: Sizes, chunks: &[u64], x: IndexRow) -> bool
 
 // The first rows, so many.
 fn rows_ascend(z: Sizes, directory: &[u64], chunks: &[u64], many: usize) -> bool
-    requires { ⌜ Chart z (now directory) (now chunks) × (many ≤ z .chunks) ⌝ }
+    requires { ⌜ Long z (now directory) (now chunks) × (many ≤ z .chunks) ⌝ }
     ensures { λ r. ⌜ FirstRight z (now (directory .entry)) (now (chunks .entry)) many r ⌝ }
 {
     let mut i = 0;
@@ -67,7 +67,7 @@ fn rows_empty(z: Sizes, directory: &[u64], from: usize) -> bool
 
 // Every row.
 pub fn index_right(z: Sizes, directory: &[u64], chunks: &[u64]) -> bool
-    requires { ⌜ Chart z (now directory) (now chunks) ⌝ }
+    requires { ⌜ Long z (now directory) (now chunks) ⌝ }
     ensures { λ r. ⌜ r ≡ indexRight z (charted z (now (directory .entry)) (now (chunks .entry))) ⌝ }
 {
     let d = rows::directory_row(directory);

@@ -2,7 +2,7 @@
 use Prim.Native.Nat.{ℕ, zero, suc, _+_, _*_, _≤_, _<_}
 use mathlib.Core.Path.{_≡_}
 use mathlib.Core.Bool.{true}
-use mathlib.Core.List.{List, []}
+use mathlib.Core.List.{List}
 use lib.Dec.{eqb}
 use lib.ListN.{length}
 use Rattle.rules.specs.declared.Sizes.{Sizes}
@@ -12,15 +12,15 @@ use Rattle.rules.specs.Words.{pick, live}
 use Rattle.rules.specs.Tables.{chunkAt}
 use Rattle.rules.specs.Walks.{locateFrom}
 use Rattle.rules.specs.Shape.{chained, indexRight}
-use Rattle.rows.specs.Rows.{directoryOf, indexOf, chunkRows, tables}
+use Rattle.rows.specs.Rows.{directoryOf, indexOf, chunkRows, charted}
 
 -- the directory's words and the chunks' have the length that the sizes ask, and the chain and the index are right, whatever the other tables hold
 pub record Charted (z : Sizes) (d cs : List ℕ) : Type 0 where
   pub directory : length d ≡ 6 + z .chunks * 2
   pub chunks : length cs ≡ z .chunks * 6
   pub first : directoryOf d .first .0 < z .chunks
-  pub chain : chained z (tables z d [] cs [] [] []) ≡ true
-  pub index : indexRight z (tables z d [] cs [] [] []) ≡ true
+  pub chain : chained z (charted z d cs) ≡ true
+  pub index : indexRight z (charted z d cs) ≡ true
 
 -- the minimum keys of so many rows ascend
 abbrev pub Rises : List ℕ → ℕ → Type 0

@@ -4,17 +4,16 @@ use mathlib.Core.Path.{_≡_, refl, ap, _∙_}
 use mathlib.Core.Logic.{_⊎_, ⊎-elim, _≢_}
 use mathlib.Core.List.{List}
 use native.Mathlib.Omega.{arith}
-use lib.Dec.{eqb, ltb, leb}
+use lib.Dec.{eqb}
 use lib.ListN.{getD, set}
-use borrow.Author.Tests.{leb-false, eqb-true}
 use Rattle.rules.specs.declared.Sizes.{Sizes}
 use Rattle.rules.specs.declared.Task.{Task}
 use Rattle.rules.specs.declared.Entry.{Entry}
 use Rattle.rules.specs.declared.Decision.{Decision}
-use Rattle.rules.specs.Words.{_and_, _or_, usesFunction, scan, scanDown, isScan}
+use Rattle.rules.specs.Words.{scan, scanDown}
 use Rattle.rules.specs.Tables.{Tables, idleTask, task, putTask}
 use Rattle.rules.specs.Stages
-use Rattle.rules.specs.Rebalance.{Outcome, begins}
+use Rattle.rules.specs.Rebalance.{begins}
 use Rattle.rules.specs.Calls.{Call, fresh, started, starts, steps, does, calls}
 use Rattle.rules.specs.Calls.Call.{start, step, begin, rebalance}
 use Rattle.laws.proofs.Tests.{picked}
@@ -23,6 +22,7 @@ use Rattle.facts.specs.Facts.{Kept}
 use Rattle.facts.specs.Reached.{Reached}
 use Rattle.facts.proofs.Fresh.{getD-all}
 use Rattle.facts.proofs.Reaching.{reached-kept}
+use Rattle.facts.proofs.Tasks.{start-by, step-by}
 use Rattle.holds.proofs.Shaped.{calls-does}
 use Rattle.handles.proofs.Owning.{put-tasks}
 use Rattle.handles.proofs.Handing.{SameTasks, rebalance-tasks, begin-tasks}
@@ -103,22 +103,12 @@ module _ (z : Sizes) (lim : Limited z) (s : Tables) (r : Reached z s) (rem : Rem
     step-done = removers-by z s′ held-then (sees-row s′ n (x .task) rows (sees-own z lim s r n (saw n)) (λ m. sees-on z lim s r n m (saw m)))
 
   step-removers : (n : ℕ) → Removers z (steps z s n .tables)
-  step-removers n =
-      picked (λ (o : Outcome). Removers z (o .tables)) (leb (z .tasks) n) (λ _. rem)
-      (λ b. picked (λ (o : Outcome). Removers z (o .tables)) (eqb (task s n .stage) 0) (λ _. rem) (λ _. step-done n (leb-false _ _ b)))
+  step-removers n = step-by z s (Removers z) rem n (λ b. step-done n b)
 
   -- ---- the other calls
   start-removers : (n op k a f : ℕ) → Removers z (starts z s n op k a f .tables)
-  start-removers n op k a f =
-      picked O (leb (z .tasks) n) (λ _. rem)
-      (λ b. picked O (eqb (task s n .stage) 0)
-      (λ e. picked O (ltb op 1 or ltb 8 op or (usesFunction op and (ltb f 1 or ltb 3 f))) (λ _. rem)
-      (λ _. picked O (isScan op and ltb a k) (λ _. rem) (λ _. done (leb-false _ _ b) (eqb-true _ _ e))))
-      (λ _. rem))
+  start-removers n op k a f = start-by z s (Removers z) rem n op k a f (λ b e _. done b e)
     where
-      O : Outcome → Type 0
-      O o = Removers z (o .tables)
-
       y : Task
       y = started z s op k a f
 

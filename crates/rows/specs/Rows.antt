@@ -24,6 +24,10 @@ pub record Lent (z : Sizes) (d ts cs es vs ms : List ℕ) : Type 0 where
   pub values : length vs ≡ z .handles
   pub marks : length ms ≡ z .handles
 
+-- tables of which the directory's words and the chunks' alone are asked
+abbrev pub charted : Sizes → List ℕ → List ℕ → Tables
+charted z d cs = tables z d [] cs [] [] []
+
 -- ---- the slices that a call is lent, as its contract has them
 -- as a `requires` has one, and as an `ensures` has one, at the call's entry and at its exit
 abbrev pub Lend : Type 0

@@ -342,7 +342,7 @@ chunkRepeated = directoryIs releasing 1 toRelease 0 1 1 ∷ directoryIs releasin
 abbrev pub countPast : List Tables
 countPast = allIndexed (chainOf 32) 33 ∷ []
 
--- "words past the count are 0 and none"
+-- words past the count are 0 and none
 abbrev pub rowPastCount : List Tables
 rowPastCount = indexIs (fresh limits) 1 (indexRow 0 0 ∷ indexRow 7 NONE ∷ []) ∷ indexIs (fresh limits) 1 (indexRow 0 0 ∷ emptyRow ∷ indexRow 0 0 ∷ []) ∷ []
 

@@ -10,12 +10,11 @@ use Rattle.rules.specs.declared.Sizes.{Sizes}
 use Rattle.rules.specs.declared.Directory.{Directory}
 use Rattle.rules.specs.Words.{pick}
 use Rattle.rules.specs.Shape.{each, sized, chunkRight, chained, taskRight, stackRight, rebalanceFits, indexRight, shape}
-use Rattle.rows.specs.Rows.{directoryOf, indexOf, taskOf, chunkOf, entryOf, indexRows, taskRows, chunkRows, entryRows, stackOf, stackRows, tables, Lent}
+use Rattle.rows.specs.Rows.{directoryOf, indexOf, taskOf, chunkOf, entryOf, indexRows, taskRows, chunkRows, entryRows, stackOf, stackRows, tables, charted, Lent}
 use Rattle.rules.proofs.Each.{each-by}
 use Rattle.rows.proofs.Laws.{length-rows}
 use Rattle.listed.specs.Parts.{asked, listed, headed}
 use Rattle.stacked.specs.Stacks.{stacked}
-use Rattle.indexed.specs.Charts.{charted}
 use Rattle.stacked.proofs.Words.{stack-long}
 
 module _ (z : Sizes) (d ts cs es vs ms : List ℕ) (lent : Lent z d ts cs es vs ms) where

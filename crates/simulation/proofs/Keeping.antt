@@ -4,7 +4,7 @@ use mathlib.Core.Path.{_≡_, sym, ap, _∙_, subst}
 use mathlib.Core.Logic.{⊎-map, _≢_}
 use mathlib.Core.List.{List}
 use native.Mathlib.Omega.{arith}
-use lib.Dec.{eqb, ltb, leb}
+use lib.Dec.{eqb, ltb}
 use lib.ListN.{set}
 use borrow.Author.Tests.{eqb-true}
 use Rattle.rules.specs.declared.Sizes.{Sizes}
@@ -14,7 +14,7 @@ use Rattle.rules.specs.declared.ChunkNo.{ChunkNo}
 use Rattle.rules.specs.declared.EntryNo.{EntryNo}
 use Rattle.rules.specs.declared.HandleNo.{HandleNo}
 use Rattle.rules.specs.declared.Decision.{Decision}
-use Rattle.rules.specs.Words.{_and_, _or_, usesFunction, isScan, idle, toDrain, toCopy, toSwap, toIndex, toRelease}
+use Rattle.rules.specs.Words.{idle, toDrain, toCopy, toSwap, toIndex, toRelease}
 use Rattle.rules.specs.Tables.{Tables, chunk, entryAt, entry, task, withDirectory}
 use Rattle.rules.specs.Stages
 use Rattle.rules.specs.Rebalance.{Outcome, unusedCount, publishedOn, heldChunk, begins, drains, swapsIn, indexes, releases, rebalanceDoes, atRest}
@@ -29,6 +29,7 @@ use Rattle.facts.proofs.Applying.{applied-by}
 use Rattle.facts.proofs.Ends.{decides-fine}
 use Rattle.facts.proofs.Swapping
 use Rattle.facts.proofs.Reaching.{call-by, reached-kept}
+use Rattle.facts.proofs.Tasks.{start-by, step-by}
 use Rattle.holds.specs.Held.{Held}
 use Rattle.holds.specs.Unlinked.{UnlinkedNone}
 use Rattle.holds.proofs.Holding.{reached-held}
@@ -100,17 +101,10 @@ module _ (z : Sizes) (lim : Limited z) (s : Tables) (kept : Kept z s) (held : He
             }
 
     step-copied : CopiedIn (steps z s n .tables)
-    step-copied = picked (λ (o : Outcome). CopiedIn (o .tables)) (leb (z .tasks) n) (λ _. copied) (λ _. picked (λ (o : Outcome). CopiedIn (o .tables)) (eqb (task s n .stage) 0) (λ _. copied) (λ _. step-done))
+    step-copied = step-by z s CopiedIn copied n (λ _. step-done)
 
   start-copied : (n op k a f : ℕ) → CopiedIn (starts z s n op k a f .tables)
-  start-copied n op k a f =
-      picked O (leb (z .tasks) n) (λ _. copied)
-      (λ _. picked O (eqb (task s n .stage) 0)
-      (λ _. picked O (ltb op 1 or ltb 8 op or (usesFunction op and (ltb f 1 or ltb 3 f))) (λ _. copied) (λ _. picked O (isScan op and ltb a k) (λ _. copied) (λ _. copied)))
-      (λ _. copied))
-    where
-      O : Outcome → Type 0
-      O o = CopiedIn (o .tables)
+  start-copied n op k a f = start-by z s CopiedIn copied n op k a f (λ _ _ _. copied)
 
   -- ---- the rebalance: only copy leaves a swap in to come
   begin-copied : (k : ℕ) → CopiedIn (begins z s k .tables)

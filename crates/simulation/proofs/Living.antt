@@ -5,9 +5,7 @@ use mathlib.Core.Logic.{_⊎_, inl, inr, ⊎-elim, _≢_}
 use mathlib.Core.Bool.{true}
 use mathlib.Core.List.{List}
 use native.Mathlib.Omega.{arith}
-use lib.Dec.{eqb, ltb, leb}
 use lib.ListN.{getD, set}
-use borrow.Author.Tests.{leb-false}
 use Rattle.rules.specs.declared.Sizes.{Sizes}
 use Rattle.rules.specs.declared.Task.{Task}
 use Rattle.rules.specs.declared.Entry.{Entry}
@@ -15,14 +13,13 @@ use Rattle.rules.specs.declared.ChunkNo.{ChunkNo}
 use Rattle.rules.specs.declared.EntryNo.{EntryNo}
 use Rattle.rules.specs.declared.HandleNo.{HandleNo}
 use Rattle.rules.specs.declared.Decision.{Decision}
-use Rattle.rules.specs.Words.{_and_, _or_, NONE, usesFunction, isScan}
+use Rattle.rules.specs.Words.{NONE}
 use Rattle.rules.specs.Tables.{Tables, idleTask, emptyEntry, chunkAt, chunk, entryAt, row, task}
 use Rattle.rules.specs.Walks.{lowestFree}
 use Rattle.rules.specs.Stages
-use Rattle.rules.specs.Rebalance.{Outcome, begins}
+use Rattle.rules.specs.Rebalance.{begins}
 use Rattle.rules.specs.Calls.{Call, fresh, started, starts, steps, does}
 use Rattle.rules.specs.Calls.Call.{start, step, begin, rebalance}
-use Rattle.laws.proofs.Tests.{picked}
 use Rattle.statements.specs.Sound.{Limited}
 use Rattle.facts.specs.Facts.{Allowed, Kept}
 use Rattle.facts.specs.Reached.{Reached}
@@ -31,6 +28,7 @@ use Rattle.facts.proofs.Applying.{Applied, applied-by}
 use Rattle.facts.proofs.Ends.{decides-fine}
 use Rattle.facts.proofs.Fresh.{getD-all}
 use Rattle.facts.proofs.Reaching.{call-by, reached-kept}
+use Rattle.facts.proofs.Tasks.{start-by, step-by}
 use Rattle.handles.specs.Owned.{NamedUnder, Sourced}
 use Rattle.handles.proofs.Naming.{sourced-back}
 use Rattle.handles.proofs.Free.{free-unnamed, free-unheld}
@@ -151,23 +149,13 @@ module _ (z : Sizes) (lim : Limited z) (s : Tables) (kept : Kept z s) (n : ℕ) 
         go m (inr e) = rw (e .1) (old-on m)
 
     step-lively : Lively z (steps z s n .tables)
-    step-lively =
-        picked (λ (o : Outcome). Lively z (o .tables)) (leb (z .tasks) n) (λ _. lively)
-        (λ b. picked (λ (o : Outcome). Lively z (o .tables)) (eqb (task s n .stage) 0) (λ _. lively) (λ _. step-done (leb-false _ _ b)))
+    step-lively = step-by z s (Lively z) lively n (λ b. step-done b)
 
 -- ---- the other calls
 module _ (z : Sizes) (lim : Limited z) (s : Tables) (kept : Kept z s) (lively : Lively z s) where
   start-lively : (n op k a f : ℕ) → Lively z (starts z s n op k a f .tables)
-  start-lively n op k a f =
-      picked O (leb (z .tasks) n) (λ _. lively)
-      (λ b. picked O (eqb (task s n .stage) 0)
-      (λ _. picked O (ltb op 1 or ltb 8 op or (usesFunction op and (ltb f 1 or ltb 3 f))) (λ _. lively)
-      (λ _. picked O (isScan op and ltb a k) (λ _. lively) (λ _. record { undeleted-live = lively .undeleted-live; old-live = λ m. go m (put-tasks z (s .tasks) n (started z s op k a f) (rw (kept .tasks-sized) (leb-false _ _ b)) m) })))
-      (λ _. lively))
+  start-lively n op k a f = start-by z s (Lively z) lively n op k a f (λ b _ _. record { undeleted-live = lively .undeleted-live; old-live = λ m. go m (put-tasks z (s .tasks) n (started z s op k a f) (rw (kept .tasks-sized) b) m) })
     where
-      O : Outcome → Type 0
-      O o = Lively z (o .tables)
-
       OldLive : Task → Type 0
       OldLive y = y .old .0 < z .handles → getD (s .marks) (y .old .0) 0 ≡ 0 → LiveNamed z (s .chunks) (s .entries) (y .old .0) (y .key)
 
