@@ -1,12 +1,12 @@
 /* Kamrduch: an ordered map from a 64-bit key to a 64-bit value in tables that the host lends, worked by eight tasks a step at a time.
  * C11, and usable from C++. Every number here is that of docs/PROMISES.md, and every call keeps the promise named there.
  *
- * The library allocates nothing, has no state of its own, and leaves no name for the host to define. No length and no word of a
- * table is wrong to pass: a call on tables of another length is refused by 10 and changes nothing, and so is any call but fresh
- * on tables without the shape. fresh looks at the lengths alone: it reads no word, and writes every one. Three things are the
- * host's to see to: a pointer reads and writes as many words as its length says, is not null even where the length is 0, and no
- * two of a call's slices share a word; and nothing else touches the tables while a call runs (mask interrupts, or hold a lock,
- * around each call). */
+ * The library allocates nothing, has no state of its own, leaves no name for the host to define, and takes less than 4 KiB of
+ * stack. No length and no word of a table is wrong to pass: a call on tables of another length is refused by 10 and changes
+ * nothing, and so is any call but fresh on tables without the shape. fresh looks at the lengths alone: it reads no word, and
+ * writes every one. Three things are the host's to see to: a pointer reads and writes as many words as its length says, is not
+ * null even where the length is 0, and no two of a call's slices share a word; and nothing else touches the tables while a call
+ * runs (mask interrupts, or hold a lock, around each call). */
 #ifndef KAMRDUCH_H
 #define KAMRDUCH_H
 

@@ -1,5 +1,5 @@
 #!/usr/bin/env bash
-# Makes docs/BENCHMARKS.md: the linked calls and the second implementation, measured in one run.
+# Makes docs/BENCHMARKS.md: the linked calls, the second implementation and one pass over the words (tests/pass.c), measured in one run.
 set -euo pipefail
 cd "$(dirname "$0")/.."
 archive=$(tests/archive.sh | tail -n 1)

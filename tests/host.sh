@@ -1,5 +1,5 @@
 #!/usr/bin/env bash
-# The library as a host links it: the header in C and C++, the example and tables that nobody has written under valgrind, and the comparison with the second implementation.
+# The library as a host links it: the header in C and C++, the README's hosts, the example and tables that nobody has written under valgrind, how much stack a call takes, and the comparison with the second implementation.
 set -euo pipefail
 cd "$(dirname "$0")/.."
 command -v cargo >/dev/null || PATH=${CARGO_HOME:-$HOME/.cargo}/bin:$PATH
@@ -25,6 +25,19 @@ same "$made/example.out" "the example"
 gcc -std=c11 -O2 -g -Wall -Wextra -Werror -pedantic -o "$made/fresh" tests/fresh.c "$archive"
 valgrind -q --error-exitcode=1 --leak-check=full "$made/fresh"
 
+# the README's two short hosts
+block() { awk -v from="\`\`\`$1" '$0 == from { on = 1; next } /^```$/ { on = 0 } on' README.md >"$made/readme.$2"; }
+block c c
+gcc -std=c11 -O2 -Wall -Wextra -Werror -Iinclude -o "$made/readme-c" "$made/readme.c" "$archive"
+"$made/readme-c"
+block rust rs
+rustc -O -o "$made/readme-rust" "$made/readme.rs" -L "$(dirname "$archive")" -l static=host
+"$made/readme-rust"
+
+# how much stack a call takes
+gcc -std=c11 -O2 -g -Wall -Wextra -Werror -pedantic -o "$made/stack" tests/stack.c "$archive"
+"$made/stack"
+
 # the second implementation by itself; then reports and tables against it, through the C boundary; more with SEED and CALLS as arguments
 export CARGO_TARGET_DIR=$PWD/target/cargo KAMRDUCH_ARCHIVE=$PWD/$archive
 (cd rust && cargo build --offline --locked --release --quiet && cargo test --offline --locked --release --quiet -p model)
@@ -43,4 +56,4 @@ if [ "$archive" != target/staticlib/libhost.a ] && command -v clang >/dev/null; 
     same "$made/host-x86.out" "the example on x86-64"
     KAMRDUCH_LEND="$emulated $made/lend-x86" target/cargo/release/compare 2 10000
 fi
-echo "host: the archive, the header, the example and the comparison are right"
+echo "host: the archive, the header, the hosts, the stack and the comparison are right"

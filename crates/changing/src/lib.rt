@@ -27,6 +27,7 @@ ghost use Rattle.rules.specs.declared.Sizes.{Sizes};
 ghost use Rattle.rules.specs.Tables.{Tables, chunkAt};
 ghost use Rattle.rules.specs.Stages.{applied, checks, applies, takesEntry, links, takesHandle, writes};
 ghost use Rattle.rows.specs.Rows.{tables, chunkRows, entryRows};
+ghost use Rattle.taking.specs.Slotted.{Slotted};
 ghost use Rattle.outcome.specs.Lengths.{Tasks, Chunks, Entries, Holds};
 
 // 4 check
@@ -174,11 +175,11 @@ pub fn link(z: Sizes, chunks: &[u64], entries: &[u64], t: Task) -> Decision
 }
 
 // 8 take handle
-pub fn take_handle(z: Sizes, tasks: &[u64], entries: &[u64], t: Task) -> Decision
-    requires { ⌜ Tasks z (now tasks) × Entries z (now entries) ⌝ }
-    ensures { λ r. ⌜ ((d cs vs ms : List ℕ) → r ≡ takesHandle z (tables z d (now (tasks .entry)) cs (now (entries .entry)) vs ms) t) ⌝ }
+pub fn take_handle(z: Sizes, tasks: &[u64], chunks: &[u64], entries: &[u64], t: Task) -> Decision
+    requires { ⌜ Tasks z (now tasks) × Slotted z (now chunks) (now entries) ⌝ }
+    ensures { λ r. ⌜ ((d vs ms : List ℕ) → r ≡ takesHandle z (tables z d (now (tasks .entry)) (now (chunks .entry)) (now (entries .entry)) vs ms) t) ⌝ }
 {
-    let h = walks::lowest_free(z, entries, tasks);
+    let h = taking::lowest_free(z, chunks, entries, tasks);
     let i = h.0 as usize;
     if i < z.handles {
         return moves_to(t, 9, t.chunk, t.entry, t.old, h, 0, 0, Write::Fresh(h));

@@ -11,4 +11,5 @@ pub mod Occasions
 pub mod Map
 pub mod Cases
 pub mod Unbroken
+pub mod Changed
 pub mod Broken

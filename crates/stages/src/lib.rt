@@ -9,6 +9,7 @@ ghost use Prim.Native.Nat.{_<_};
 ghost use Rattle.rules.specs.Stages.{decide};
 ghost use Rattle.rows.specs.Rows.{asLent, Lends};
 ghost use Rattle.locating.specs.Charted.{Charted};
+ghost use Rattle.taking.specs.Slotted.{Slotted};
 ghost use Rattle.outcome.specs.Lengths.{Held};
 
 // The step looks at each of the 24 stage numbers, for task number `n`.
@@ -23,7 +24,7 @@ pub fn decide(
     n: usize,
     t: Task,
 ) -> Decision
-    requires { ⌜ Lends z directory tasks chunks entries values marks × Held z t × (t .stage < 24) × Charted z (now directory) (now chunks) × (n < z .tasks) ⌝ }
+    requires { ⌜ Lends z directory tasks chunks entries values marks × Held z t × (t .stage < 24) × Charted z (now directory) (now chunks) × (n < z .tasks) × Slotted z (now chunks) (now entries) ⌝ }
     ensures { λ r. ⌜ r ≡ decide z (asLent z directory tasks chunks entries values marks) n t ⌝ }
 {
     let stage = t.stage;
@@ -36,7 +37,7 @@ pub fn decide(
         5 => changing::apply(values, marks, t),
         6 => changing::take_entry(z, chunks, t),
         7 => changing::link(z, chunks, entries, t),
-        8 => changing::take_handle(z, tasks, entries, t),
+        8 => changing::take_handle(z, tasks, chunks, entries, t),
         9 => changing::write(t),
         10..=12 => publish::insertion(z, chunks, entries, t),
         13..=15 => publish::absence(z, chunks, entries, t),

@@ -3,9 +3,11 @@ use rules::Report;
 use rules::Sizes;
 ghost use mathlib.Core.Path.{_≡_};
 ghost use mathlib.Core.Bool.{true};
+ghost use Prim.Native.Nat.{_≤_};
 ghost use Rattle.rules.specs.Shape.{shape};
 ghost use Rattle.rules.specs.Calls.{steps};
 ghost use Rattle.rules.specs.Rebalance.{gives};
+ghost use Rattle.taking.specs.Left.{room};
 ghost use Rattle.rows.specs.Rows.{asLent, asLeft, Lends, tablesNow};
 
 // Refusals 1 and 3, or the task's own row and stack and at most one write elsewhere.
@@ -19,7 +21,7 @@ pub fn step(
     marks: &mut [u64],
     n: u64,
 ) -> Report
-    requires { ⌜ Lends z directory tasks chunks entries values marks × (shape z (tablesNow z directory tasks chunks entries values marks) ≡ true) ⌝ }
+    requires { ⌜ Lends z directory tasks chunks entries values marks × (shape z (tablesNow z directory tasks chunks entries values marks) ≡ true) × (z .handles ≤ room) ⌝ }
     ensures { λ r. ⌜ gives (asLeft z directory tasks chunks entries values marks) r ≡ steps z (asLent z directory tasks chunks entries values marks) n ⌝ }
 {
     let i = n as usize;

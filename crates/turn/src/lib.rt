@@ -8,6 +8,7 @@ ghost use Rattle.rules.specs.Stages.{decide};
 ghost use Rattle.rules.specs.Rebalance.{gives};
 ghost use Rattle.rows.specs.Rows.{asLent, asLeft, Lends};
 ghost use Rattle.locating.specs.Charted.{Charted};
+ghost use Rattle.taking.specs.Slotted.{Slotted};
 ghost use Rattle.outcome.specs.Lengths.{Held};
 ghost use Rattle.turn.specs.Turns.{writes};
 
@@ -29,7 +30,7 @@ pub fn move_on(
     n: usize,
     t: Task,
 ) -> Turned
-    requires { ⌜ Lends z directory tasks chunks entries values marks × Held z t × (t .stage < 24) × Charted z (now directory) (now chunks) × (n < z .tasks) ⌝ }
+    requires { ⌜ Lends z directory tasks chunks entries values marks × Held z t × (t .stage < 24) × Charted z (now directory) (now chunks) × (n < z .tasks) × Slotted z (now chunks) (now entries) ⌝ }
     ensures { λ r. ⌜ (r .task ≡ decide z (asLent z directory tasks chunks entries values marks) n t .task) × (gives (asLeft z directory tasks chunks entries values marks) (r .report) ≡ writes z (asLent z directory tasks chunks entries values marks) n t) ⌝ }
 {
     let x = stages::decide(z, directory, tasks, chunks, entries, values, marks, n, t);
@@ -52,7 +53,7 @@ pub fn step(
     n: usize,
     t: &mut Task,
 ) -> Report
-    requires { ⌜ Lends z directory tasks chunks entries values marks × Held z (now t) × (now t .stage < 24) × Charted z (now directory) (now chunks) × (n < z .tasks) ⌝ }
+    requires { ⌜ Lends z directory tasks chunks entries values marks × Held z (now t) × (now t .stage < 24) × Charted z (now directory) (now chunks) × (n < z .tasks) × Slotted z (now chunks) (now entries) ⌝ }
     ensures { λ r. ⌜ (now (t .exit) ≡ decide z (asLent z directory tasks chunks entries values marks) n (now (t .entry)) .task) × (gives (asLeft z directory tasks chunks entries values marks) r ≡ writes z (asLent z directory tasks chunks entries values marks) n (now (t .entry))) ⌝ }
 {
     let x = move_on(z, directory, tasks, chunks, entries, values, marks, n, *t);
@@ -72,7 +73,7 @@ pub fn lend(
     n: usize,
     t: Task,
 ) -> Turned
-    requires { ⌜ Lends z directory tasks chunks entries values marks × Held z t × (t .stage < 24) × Charted z (now directory) (now chunks) × (n < z .tasks) ⌝ }
+    requires { ⌜ Lends z directory tasks chunks entries values marks × Held z t × (t .stage < 24) × Charted z (now directory) (now chunks) × (n < z .tasks) × Slotted z (now chunks) (now entries) ⌝ }
     ensures { λ r. ⌜ (r .task ≡ decide z (asLent z directory tasks chunks entries values marks) n t .task) × (gives (asLeft z directory tasks chunks entries values marks) (r .report) ≡ writes z (asLent z directory tasks chunks entries values marks) n t) ⌝ }
 {
     let mut own = t;

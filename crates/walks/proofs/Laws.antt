@@ -11,15 +11,13 @@ use lib.Dec.{eqb, ltb, leb}
 use lib.ListN.{length, getD, drop}
 use lib.Seq.{drop-cons, drop-nil}
 use Rattle.rules.specs.declared.Sizes.{Sizes}
-use Rattle.rules.specs.declared.Task.{Task}
 use Rattle.rules.specs.declared.Chunk.{Chunk}
 use Rattle.rules.specs.declared.Entry.{Entry}
 use Rattle.rules.specs.declared.ChunkNo.{ChunkNo}
 use Rattle.rules.specs.declared.EntryNo.{EntryNo}
-use Rattle.rules.specs.declared.HandleNo.{HandleNo}
-use Rattle.rules.specs.Words.{pick, _and_, _or_, NONE, chunkNo, handleNo, noChunk, noEntry, noHandle, unused}
+use Rattle.rules.specs.Words.{pick, _and_, NONE, chunkNo, noChunk, noEntry, unused}
 use Rattle.rules.specs.Tables.{chunkAt, entryAt}
-use Rattle.rules.specs.Walks.{locateFrom, beforeFrom, findFrom, placeFrom, withinFrom, depth, top, namedIn, heldIn, free, freeFrom}
+use Rattle.rules.specs.Walks.{locateFrom, beforeFrom, findFrom, placeFrom, withinFrom, depth, top}
 use Rattle.rules.specs.Rebalance.{unusedCount, unusedFrom, publishedOn, heldChunk}
 use Rattle.rows.specs.Rows.{rowsFrom, stackOf, stackRows}
 use Rattle.rows.proofs.Laws.{length-rows, row-read, rows-step, rows-done}
@@ -183,14 +181,6 @@ module _ {A : Type 0} {some : List A → Bool} {test : A → Bool} (law : Some s
   pub some-next : i < n → (x : A) → x ≡ f i → test x ≡ false → some (rowsFrom f i (n - i)) ≡ some (rowsFrom f (i + 1) (n - (i + 1)))
   some-next h x q t = rw (rows-step f n i h, law .cons, ← q, t)
 
-pub named-some : (h : HandleNo) → Some (λ l. namedIn l h) (λ x. eqb (x .handle .0) (h .0))
-unfolding namedIn
-named-some h = record { nil = refl; cons = λ x l. refl }
-
-pub held-some : (h : HandleNo) → Some (λ l. heldIn l h) (λ t. eqb (t .old .0) (h .0) or eqb (t .new .0) (h .0))
-unfolding heldIn
-held-some h = record { nil = refl; cons = λ x l. refl }
-
 pub published-some : (c : ChunkNo) → Some (λ l. publishedOn l c) (λ t. eqb (t .published) 1 and eqb (t .chunk .0) (c .0))
 unfolding publishedOn
 published-some c = record { nil = refl; cons = λ x l. refl }
@@ -224,17 +214,3 @@ module _ (f : ℕ → Chunk) (n i : ℕ) where
   pub count-next : i < n → (x : Chunk) → x ≡ f i → (x .status ≡ unused → ⊥) → unusedCount (rowsFrom f i (n - i)) ≡ unusedCount (rowsFrom f (i + 1) (n - (i + 1)))
   unfolding unusedCount
   count-next h x q t = rw (rows-step f n i h, ← q, ne-eqb _ _ t)
-
--- the free handles
-module _ (es : List Entry) (ts : List Task) (h left : ℕ) where
-  pub free-spent : left ≤ 0 → freeFrom es ts left h ≡ noHandle
-  unfolding freeFrom
-  free-spent l = rw (le-antisymm l zero-le)
-
-  pub free-here : 0 < left → free es ts (handleNo h) ≡ true → freeFrom es ts left h ≡ handleNo h
-  unfolding freeFrom
-  free-here p t = fuelled (λ n. freeFrom es ts n h) (λ n. handleNo h) (λ n. rw t) left p
-
-  pub free-next : 0 < left → free es ts (handleNo h) ≡ false → freeFrom es ts left h ≡ freeFrom es ts (left - 1) (h + 1)
-  unfolding freeFrom
-  free-next p t = fuelled (λ n. freeFrom es ts n h) (λ n. freeFrom es ts n (h + 1)) (λ n. rw t) left p

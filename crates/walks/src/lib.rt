@@ -3,7 +3,6 @@ use rules::Chunk;
 use rules::ChunkNo;
 use rules::Entry;
 use rules::EntryNo;
-use rules::HandleNo;
 use rules::NONE;
 use rules::Sizes;
 use rules::Task;
@@ -14,7 +13,7 @@ ghost use mathlib.Core.List.{[]};
 ghost use lib.ListN.{length, drop, getD};
 ghost use Rattle.rules.specs.Words.{noEntry};
 ghost use Rattle.rules.specs.Tables.{entryAt};
-ghost use Rattle.rules.specs.Walks.{locateFrom, beforeFrom, findFrom, placeFrom, depth, namedIn, heldIn, free, freeFrom};
+ghost use Rattle.rules.specs.Walks.{locateFrom, beforeFrom, findFrom, placeFrom, depth};
 ghost use Rattle.rules.specs.Rebalance.{unusedCount, unusedFrom, publishedOn, heldChunk};
 ghost use Rattle.rows.specs.Rows.{taskRows, chunkRows, entryRows, stackRows};
 
@@ -139,72 +138,6 @@ pub fn stack_depth(z: Sizes, tasks: &[u64], n: usize) -> usize
         i += 1;
     }
     i
-}
-
-// ---- which handle is free
-
-// An entry of the first `n` rows names the handle.
-pub fn named_in(n: usize, entries: &[u64], h: HandleNo) -> bool
-    requires { ⌜ n * 3 ≤ length (now entries) ⌝ }
-    ensures { λ r. ⌜ r ≡ namedIn (entryRows n (now (entries .entry))) h ⌝ }
-{
-    let mut i = 0;
-    while i < n {
-        let x = rows::entry_row(entries, i);
-        if x.handle.0 == h.0 {
-            return true;
-        }
-        i += 1;
-    }
-    false
-}
-
-// A task of the first `n` rows holds the handle.
-pub fn held_in(n: usize, tasks: &[u64], h: HandleNo) -> bool
-    requires { ⌜ n * 11 ≤ length (now tasks) ⌝ }
-    ensures { λ r. ⌜ r ≡ heldIn (taskRows n (now (tasks .entry))) h ⌝ }
-{
-    let mut i = 0;
-    while i < n {
-        let t = rows::task_row(tasks, i);
-        if t.old.0 == h.0 {
-            return true;
-        }
-        if t.new.0 == h.0 {
-            return true;
-        }
-        i += 1;
-    }
-    false
-}
-
-// No entry names the handle, and no task holds it.
-pub fn is_free(z: Sizes, entries: &[u64], tasks: &[u64], h: HandleNo) -> bool
-    requires { ⌜ (length (now entries) ≡ z .chunks * z .entries * 3) × (z .tasks * 11 ≤ length (now tasks)) ⌝ }
-    ensures { λ r. ⌜ r ≡ free (entryRows (z .chunks * z .entries) (now (entries .entry))) (taskRows (z .tasks) (now (tasks .entry))) h ⌝ }
-{
-    if named_in(z.chunks * z.entries, entries, h) {
-        return false;
-    }
-    !held_in(z.tasks, tasks, h)
-}
-
-// The lowest free handle, or none.
-pub fn lowest_free(z: Sizes, entries: &[u64], tasks: &[u64]) -> HandleNo
-    requires { ⌜ (length (now entries) ≡ z .chunks * z .entries * 3) × (z .tasks * 11 ≤ length (now tasks)) ⌝ }
-    ensures { λ r. ⌜ r ≡ freeFrom (entryRows (z .chunks * z .entries) (now (entries .entry))) (taskRows (z .tasks) (now (tasks .entry))) (z .handles) 0 ⌝ }
-{
-    let mut n: u64 = 0;
-    let mut left = z.handles;
-    while 0 < left {
-        let h = HandleNo(n);
-        if is_free(z, entries, tasks, h) {
-            return h;
-        }
-        n += 1;
-        left -= 1;
-    }
-    HandleNo(NONE)
 }
 
 // ---- what the rebalance looks for

@@ -7,6 +7,7 @@ use std::process::{Child, Command, Stdio};
 pub mod damage;
 pub mod indexes;
 pub mod runs;
+pub mod spread;
 pub mod stacks;
 pub mod states;
 
@@ -222,5 +223,13 @@ impl Chance {
 
     pub fn of<T: Copy>(&mut self, from: &[T]) -> T {
         from[self.below(from.len())]
+    }
+
+    /// Puts all in random order.
+    pub fn shuffle<T>(&mut self, all: &mut [T]) {
+        for i in (1..all.len()).rev() {
+            let j = self.below(i + 1);
+            all.swap(i, j);
+        }
     }
 }

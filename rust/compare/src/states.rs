@@ -3,12 +3,13 @@ use crate::{Call, Chance};
 use model::words::{blank, Words};
 use model::{Rebalance, Report, Restart, Stage, Tables, TASKS};
 
-/// A state, and the call that is measured on it.
+/// A state, and the call that is measured on it; where there are more states, each time on the next in turn.
 pub struct Case {
     pub name: String,
     pub tables: Tables,
     pub words: Words,
     pub call: Call,
+    pub more: Vec<(Tables, Words)>,
 }
 
 fn working(t: &Tables, n: usize) -> u64 {
@@ -39,17 +40,14 @@ pub fn operate(t: &mut Tables, op: u64, key: u64, argument: u64) -> u64 {
 pub fn with_keys(count: u64) -> (Tables, Vec<u64>) {
     let (mut t, mut r) = (Tables::fresh(), Chance::new(count));
     let mut keys: Vec<u64> = (1..=count).map(|i| i * 1000).collect();
-    for i in (1..keys.len()).rev() {
-        let j = r.below(i + 1);
-        keys.swap(i, j);
-    }
+    r.shuffle(&mut keys);
     for &k in &keys {
         operate(&mut t, 2, k, k);
     }
     (t, keys)
 }
 
-fn chain(t: &Tables) -> Vec<usize> {
+pub(crate) fn chain(t: &Tables) -> Vec<usize> {
     let mut chain = vec![t.first];
     while let Some(next) = t.chunks[chain[chain.len() - 1]].next {
         chain.push(next);
@@ -113,8 +111,13 @@ fn all_naming(t: &Tables) -> Vec<usize> {
 }
 
 /// Seven tasks at stage 5, each at the end of a list of 32.
-pub fn busy(mut t: Tables) -> Tables {
+pub fn busy(t: Tables) -> Tables {
     let chunks = all_naming(&t);
+    busy_in(t, &chunks)
+}
+
+/// Seven tasks at stage 5, each with the last key of one of the chunks.
+pub(crate) fn busy_in(mut t: Tables, chunks: &[usize]) -> Tables {
     for (n, &c) in (1..TASKS).zip(chunks.iter().rev().cycle()) {
         let key = last_key(&t, c);
         t.start(n as u64, 2, key, 7, 0);
@@ -125,18 +128,23 @@ pub fn busy(mut t: Tables) -> Tables {
     t
 }
 
+/// A chunk's rebalance as far as to its release, with two new chunks.
+pub(crate) fn retire(t: &mut Tables, old: usize) -> [usize; 2] {
+    t.begin(last_key(t, old));
+    for _ in 0..4 {
+        assert_eq!(t.rebalance(), Report::MovedOn);
+    }
+    match t.rebalance {
+        Rebalance::Release(_, new, Some(second)) => [new, second],
+        _ => panic!("two new chunks"),
+    }
+}
+
 /// 31 live chunks and a retired one, every list long, 559 keys present; the tasks are idle.
 pub fn heavy() -> Tables {
     let mut t = long_lists(30, 559);
     let old = *all_naming(&t).last().unwrap();
-    t.begin(last_key(&t, old));
-    for _ in 0..4 {
-        assert_eq!(t.rebalance(), Report::MovedOn);
-    }
-    let Rebalance::Release(_, new, Some(second)) = t.rebalance else {
-        panic!("two new chunks")
-    };
-    for c in [new, second] {
+    for c in retire(&mut t, old) {
         let first = t.chunks[c].linked().next().unwrap().1.key;
         let absent: Vec<u64> = (first + 1..).filter(|&k| t.chunks[c].find(k).is_none()).take(16).collect();
         for &k in &absent {
@@ -279,14 +287,48 @@ pub fn at_stage(t: &Tables, stage: Stage) -> Tables {
     t
 }
 
-pub fn case(name: &str, tables: Tables, call: Call) -> Case {
+fn in_words(tables: Tables) -> (Tables, Words) {
     let mut words = blank();
     tables.to_words(&mut words);
+    (tables, words)
+}
+
+pub fn case(name: &str, tables: Tables, call: Call) -> Case {
+    let (tables, words) = in_words(tables);
     Case {
         name: name.to_string(),
         tables,
         words,
         call,
+        more: vec![],
+    }
+}
+
+/// The shape alone is a start refused by 1.
+const ALONE: Call = Call::Start(8, 1, 0, 0, 0);
+/// Its name, or how that begins.
+pub const SHAPE: &str = "the shape alone";
+
+/// The shape alone on the tables, by a name that goes on so.
+pub fn alone(more: &str, t: &Tables) -> Case {
+    case(&format!("{SHAPE}{more}"), t.clone(), ALONE)
+}
+
+impl Case {
+    pub fn is_alone(&self) -> bool {
+        self.call == ALONE
+    }
+
+    pub fn with_more(self, more: impl Iterator<Item = Tables>) -> Case {
+        Case {
+            more: more.map(in_words).collect(),
+            ..self
+        }
+    }
+
+    pub fn states(&self) -> Vec<(&Tables, &Words)> {
+        let more = self.more.iter().map(|(tables, words)| (tables, words));
+        std::iter::once((&self.tables, &self.words)).chain(more).collect()
     }
 }
 
@@ -327,7 +369,7 @@ pub const STAGES: [&str; 23] = [
 pub fn all_stages(steps: &Tables, rebalances: &Tables) -> Vec<Case> {
     let key = last_key(steps, chain(steps)[chain(steps).len() - 1]);
     let mut cases = vec![
-        case("the shape alone (a start refused by 1)", steps.clone(), Call::Start(8, 1, 0, 0, 0)),
+        alone(" (a start refused by 1)", steps),
         case("fresh", steps.clone(), Call::Fresh),
         case("start", steps.clone(), Call::Start(0, 1, key, 0, 0)),
     ];

@@ -35,7 +35,7 @@ returns : tie.Need-returns
 returns c = let the-args = c .before .before .before .before .before .before .before .before .before .before .before .before .before .args in let the-is-ready = c .before .is-ready in refused (the-args .z) (Call.step (the-args .n)) (lending (the-args .directory .now) (the-args .tasks .now) (the-args .chunks .now) (the-args .entries .now) (the-args .values .now) (the-args .marks .now)) (sym (the-is-ready .ensures) ∙ not-true (the-is-ready .result) (c .if1 .taken))
 
 step-requires : tie.Need-step-requires
-step-requires c κs = let the-args = c .before .before .before .before .before .before .before .before .before .before .before .before .before .before .before .before .before .before .args in let the-if1 = c .before .before .before .before .before .if1 in let the-is-ready = c .before .before .before .before .before .before .is-ready in ((lent-lengths (the-args .z) (lending (the-args .directory .now) (the-args .tasks .now) (the-args .chunks .now) (the-args .entries .now) (the-args .values .now) (the-args .marks .now)) (and-left (lent (the-args .z) (lending (the-args .directory .now) (the-args .tasks .now) (the-args .chunks .now) (the-args .entries .now) (the-args .values .now) (the-args .marks .now))) (shape (the-args .z) (tablesOf (the-args .z) (lending (the-args .directory .now) (the-args .tasks .now) (the-args .chunks .now) (the-args .entries .now) (the-args .values .now) (the-args .marks .now)))) (sym (the-is-ready .ensures) ∙ not-false (the-is-ready .result) (the-if1 .left)))), (and-right (lent (the-args .z) (lending (the-args .directory .now) (the-args .tasks .now) (the-args .chunks .now) (the-args .entries .now) (the-args .values .now) (the-args .marks .now))) (shape (the-args .z) (tablesOf (the-args .z) (lending (the-args .directory .now) (the-args .tasks .now) (the-args .chunks .now) (the-args .entries .now) (the-args .values .now) (the-args .marks .now)))) (sym (the-is-ready .ensures) ∙ not-false (the-is-ready .result) (the-if1 .left))))
+step-requires c κs = let the-args = c .before .before .before .before .before .before .before .before .before .before .before .before .before .before .before .before .before .before .args in let the-if1 = c .before .before .before .before .before .if1 in let the-is-ready = c .before .before .before .before .before .before .is-ready in ((lent-lengths (the-args .z) (lending (the-args .directory .now) (the-args .tasks .now) (the-args .chunks .now) (the-args .entries .now) (the-args .values .now) (the-args .marks .now)) (and-left (lent (the-args .z) (lending (the-args .directory .now) (the-args .tasks .now) (the-args .chunks .now) (the-args .entries .now) (the-args .values .now) (the-args .marks .now))) (shape (the-args .z) (tablesOf (the-args .z) (lending (the-args .directory .now) (the-args .tasks .now) (the-args .chunks .now) (the-args .entries .now) (the-args .values .now) (the-args .marks .now)))) (sym (the-is-ready .ensures) ∙ not-false (the-is-ready .result) (the-if1 .left)))), (and-right (lent (the-args .z) (lending (the-args .directory .now) (the-args .tasks .now) (the-args .chunks .now) (the-args .entries .now) (the-args .values .now) (the-args .marks .now))) (shape (the-args .z) (tablesOf (the-args .z) (lending (the-args .directory .now) (the-args .tasks .now) (the-args .chunks .now) (the-args .entries .now) (the-args .values .now) (the-args .marks .now)))) (sym (the-is-ready .ensures) ∙ not-false (the-is-ready .result) (the-if1 .left))), c .before .before .before .before .before .before .before .before .before .before .before .before .before .before .before .before .before .before .pre .handles)
 
 same-length-6 : tie.Need-same-length-6
 same-length-6 c = search needs

@@ -11,13 +11,13 @@ moves-to-requires : tie.Need-moves-to-requires
 moves-to-requires c κs = search needs
 
 returns : tie.Need-returns
-returns c = λ d cs vs ms. rw (← c .before .before .before .lowest-free .ensures, lt-ltb _ _ (c .before .if1 .taken)) (c .moves-to .ensures)
+returns c = λ d vs ms. rw (← c .before .before .before .lowest-free .ensures, lt-ltb _ _ (c .before .if1 .taken)) (c .moves-to .ensures)
 
 finishes-requires : tie.Need-finishes-requires
 finishes-requires c κs = search needs
 
 returns-2 : tie.Need-returns-2
-returns-2 c = λ d cs vs ms. rw (← c .before .before .before .lowest-free .ensures, le-ltb _ _ (c .before .if1 .left)) (c .finishes .ensures)
+returns-2 c = λ d vs ms. rw (← c .before .before .before .lowest-free .ensures, le-ltb _ _ (c .before .if1 .left)) (c .finishes .ensures)
 
 pub take-handle-spec : {M : Type 1} → statement M
 take-handle-spec =

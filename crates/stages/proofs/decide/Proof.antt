@@ -36,7 +36,7 @@ link-requires : tie.Need-link-requires
 link-requires c κs = let the-pre = c .before .before .before .before .before .before .before .pre in (chunk-held 7 _ _ (the-pre .1) (c .match .keys8) refl, the-pre .0 .chunks, the-pre .0 .entries)
 
 take-handle-requires : tie.Need-take-handle-requires
-take-handle-requires c κs = let the-pre = c .before .before .before .before .before .before .before .pre in (omega (arith, the-pre .0 .tasks), the-pre .0 .entries)
+take-handle-requires c κs = let the-pre = c .before .before .before .before .before .before .before .pre in (omega (arith, the-pre .0 .tasks), the-pre .5)
 
 write-requires : tie.Need-write-requires
 write-requires c κs = search needs
@@ -99,7 +99,7 @@ returns-8 c = let the-args = c .before .before .before .before .before .before .
 
 returns-9 : tie.Need-returns-9
 unfolding stageDoes
-returns-9 c = let the-args = c .before .before .before .before .before .before .before .before .args in c .take-handle .ensures (the-args .directory .now) (the-args .chunks .now) (the-args .values .now) (the-args .marks .now) ∙ at 8 (the-args .n) (the-args .z) (tables (the-args .z) (the-args .directory .now) (the-args .tasks .now) (the-args .chunks .now) (the-args .entries .now) (the-args .values .now) (the-args .marks .now)) (the-args .t) (c .before .match .keys9)
+returns-9 c = let the-args = c .before .before .before .before .before .before .before .before .args in c .take-handle .ensures (the-args .directory .now) (the-args .values .now) (the-args .marks .now) ∙ at 8 (the-args .n) (the-args .z) (tables (the-args .z) (the-args .directory .now) (the-args .tasks .now) (the-args .chunks .now) (the-args .entries .now) (the-args .values .now) (the-args .marks .now)) (the-args .t) (c .before .match .keys9)
 
 returns-10 : tie.Need-returns-10
 unfolding stageDoes

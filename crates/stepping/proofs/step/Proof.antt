@@ -10,6 +10,7 @@ use Rattle.rules.proofs.Shaped.{stage-known}
 use Rattle.rows.specs.Rows.{tables, taskOf}
 use Rattle.rows.proofs.Laws.{row-read, length-rows}
 use Rattle.locating.proofs.Laws.{shape-charted}
+use Rattle.taking.proofs.Shape.{shape-slotted}
 use Rattle.stepping.proofs.Held.{task-held}
 use Rattle.stepping.proofs.Stepped.{down-decided, stepped}
 use Rattle.stepping.proofs.step.Statement.{statement}
@@ -46,7 +47,7 @@ lend-requires c κs =
     let z = a .z in
     let n = a .n in
     let pre = start row .pre in
-    (pre .0, rw (own row) (task-held z s (pre .1) (length-rows _ _ _) n (row .before .before .if1 .left)), rw (own row) (suc-le-suc (stage-known z s (pre .1) n)), shape-charted z (a .directory .now) (a .tasks .now) (a .chunks .now) (a .entries .now) (a .values .now) (a .marks .now) (pre .0) (pre .1), row .before .before .if1 .left)
+    (pre .0, rw (own row) (task-held z s (pre .1) (length-rows _ _ _) n (row .before .before .if1 .left)), rw (own row) (suc-le-suc (stage-known z s (pre .1) n)), shape-charted z (a .directory .now) (a .tasks .now) (a .chunks .now) (a .entries .now) (a .values .now) (a .marks .now) (pre .0) (pre .1), row .before .before .if1 .left, shape-slotted z (a .directory .now) (a .tasks .now) (a .chunks .now) (a .entries .now) (a .values .now) (a .marks .now) (pre .0) (pre .1) (pre .2))
 
 restack-requires : tie.Need-restack-requires
 restack-requires c κs =

@@ -53,6 +53,7 @@ use Rattle.rules.proofs.Report as R
 use Rattle.rules.proofs.Report.Laws as R′
 use Rattle.rows.specs.Rows.{Lent, tables as every}
 use Rattle.locating.specs.Charted.{Charted}
+use Rattle.taking.specs.Slotted.{Slotted}
 use Rattle.outcome.specs.Lengths.{Held}
 use Rattle.turn.specs.declared.Turned.{Turned}
 use Rattle.turn.specs.Turns.{writes}
@@ -108,7 +109,7 @@ module _ {M : Type 1} (𝓤 : URA M) (H : Heap 𝓤) (A : Atoms 𝓤) (W : Given
   before = every z (d .now) (ts .now) (cs .now) (es .now) (vs .now) (ms .now)
 
   abbrev Asks : Type 0
-  Asks = Lent z (d .now) (ts .now) (cs .now) (es .now) (vs .now) (ms .now) × Held z t × (t .stage < 24) × Charted z (d .now) (cs .now) × (n < z .tasks)
+  Asks = Lent z (d .now) (ts .now) (cs .now) (es .now) (vs .now) (ms .now) × Held z t × (t .stage < 24) × Charted z (d .now) (cs .now) × (n < z .tasks) × Slotted z (cs .now) (es .now)
 
   -- the last words of the four tables, by place
   abbrev Last : Type 0

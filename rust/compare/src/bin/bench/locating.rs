@@ -1,7 +1,8 @@
-//! What the index brings and costs: locating by it beside the plain walk, the rebalance's index step, and the check of its rows.
+//! What the index brings and costs: locating by it beside the plain walk, and the rebalance's index step.
 use crate::measure::Figures;
+use crate::section::Section;
 use crate::CHUNKS;
-use compare::states::{case, operate, with_chunks, Case};
+use compare::states::{alone, case, operate, with_chunks, Case};
 use compare::Call;
 use model::{Index, Report, Tables};
 
@@ -11,8 +12,6 @@ const LOCATES: [(u64, &str); 4] = [(1, "1 locate"), (16, "16 locate again"), (22
 const BEGUN: [usize; 2] = [2, 30];
 const STEPS: [&str; 3] = ["swap in", "index", "release"];
 const TOP: u64 = u64::MAX;
-/// The shape alone: refused by 1.
-const ALONE: Call = Call::Start(8, 1, 0, 0, 0);
 
 /// So many live chunks of 16 keys each, the last of 18, the largest key of all among them.
 fn to_the_top(count: usize) -> Tables {
@@ -44,7 +43,7 @@ fn locating(stage: u64, count: usize) -> (Tables, Call) {
 /// The call and the shape alone, on one state.
 fn with_alone(name: &str, t: &Tables, call: Call) -> [Case; 2] {
     assert!(t.has_shape());
-    [case(name, t.clone(), call), case("the shape alone", t.clone(), ALONE)]
+    [case(name, t.clone(), call), alone("", t)]
 }
 
 /// Each call at each number of live chunks: with no row in the index, and with every live chunk's.
@@ -82,20 +81,12 @@ pub fn steps() -> Vec<Case> {
 
 // ---- the page
 
-/// What a call takes beyond the shape alone.
-fn beyond(call: Figures, alone: Figures) -> Figures {
-    Figures {
-        linked: call.linked - alone.linked,
-        model: call.model - alone.model,
-    }
-}
-
 fn calls_table(unit: &str, figures: &[Figures]) {
     println!("| Call | live chunks | plain {unit} | index {unit} | Rust {unit} | plain, beyond the shape | index, beyond | Rust, beyond |");
     println!("|---|---|---|---|---|---|---|---|");
     let rows = LOCATES.iter().flat_map(|(_, name)| CHUNKS.map(|count| (name, count)));
     for ((name, count), f) in rows.zip(figures.chunks_exact(4)) {
-        let (plain, index) = (beyond(f[0], f[1]), beyond(f[2], f[3]));
+        let (plain, index) = (f[0].beyond(f[1]), f[2].beyond(f[3]));
         print!("| {name} | {count} | {:.0} | {:.0} | {:.0} |", f[0].linked, f[2].linked, f[2].model);
         println!(" {:.0} | {:.0} | {:.0} |", plain.linked, index.linked, index.model);
     }
@@ -107,7 +98,7 @@ fn ratios(counts: &[Figures]) {
     println!("|---|---|---|---|---|---|---|");
     for ((_, name), f) in LOCATES.iter().zip(counts.chunks_exact(4 * CHUNKS.len())) {
         let last = f.len() - 4;
-        let [one, most] = [0, last].map(|i| (beyond(f[i], f[i + 1]), beyond(f[i + 2], f[i + 3])));
+        let [one, most] = [0, last].map(|i| (f[i].beyond(f[i + 1]), f[i + 2].beyond(f[i + 3])));
         print!("| {name} |");
         for (one, most) in [(one.0.linked, most.0.linked), (one.1.linked, most.1.linked), (one.1.model, most.1.model)] {
             print!(" {:.2} | {:.0} |", most / one, most - one);
@@ -119,7 +110,7 @@ fn ratios(counts: &[Figures]) {
 /// What a whole call at stage 1 has of it, at the largest number of live chunks.
 fn whole(counts: &[Figures]) {
     let f = &counts[4 * (CHUNKS.len() - 1)..];
-    let (plain, index) = (beyond(f[0], f[1]), beyond(f[2], f[3]));
+    let (plain, index) = (f[0].beyond(f[1]), f[2].beyond(f[3]));
     println!(
         "\nOf a whole call the index changes less: stage 1 at 30 live chunks takes {:.0} instructions with no row and {:.0} with 30. The way to the chunk is shorter by {:.0}, and the check of 30 rows is dearer by {:.0} than that of none.",
         f[0].linked,
@@ -129,10 +120,10 @@ fn whole(counts: &[Figures]) {
     );
 }
 
-pub fn calls_page(times: &[Figures], counts: &[Option<Figures>]) {
+pub fn calls_page(section: &Section) {
     println!("\n## Locating\n\nCalls that locate a key: stages 1, 16 and 22, and begin; a fill at stage 23 locates as they do. The key is the largest of all, present in the last chunk of the chain; chunks of 16 keys, the last of 18; the other tasks are idle. The plain walk is the same code on the same tables with no row in the index: such tables have the shape, no row is at or under the key, and so the walk goes from the first live chunk along the whole chain. The index has the rows of all live chunks. The columns are of one run, in turn. Beyond the shape is a call's figure less that of the shape alone (a start refused by 1) on the same tables. The scan's cursor is the key below the largest, and its step goes on through the 18 entries of the chunk found. Rust walks the chain with any index; its column is of the tables with all rows.\n");
-    calls_table("ns", times);
-    let Some(counts) = counts.iter().copied().collect::<Option<Vec<Figures>>>() else {
+    calls_table("ns", &section.times);
+    let Some(counts) = section.counts.iter().copied().collect::<Option<Vec<Figures>>>() else {
         return;
     };
     println!();
@@ -142,53 +133,21 @@ pub fn calls_page(times: &[Figures], counts: &[Option<Figures>]) {
     whole(&counts);
 }
 
-pub fn steps_page(times: &[Figures], counts: &[Option<Figures>]) {
+pub fn steps_page(section: &Section) {
     println!("\n## The index step\n\nBeside swap in and release, of a rebalance of the last chunk, whose 18 keys become two chunks: 2 live chunks become 3, and 30 become 31. Beyond the shape as above.\n");
     println!("| Call | live chunks at begin | Rattle ns | Rust ns | ratio | Rattle instructions | Rust instructions | ratio | Rattle, beyond the shape | Rust, beyond |");
     println!("|---|---|---|---|---|---|---|---|---|---|");
     let rows = BEGUN.iter().flat_map(|count| STEPS.map(|name| (name, count)));
-    for ((name, count), (t, c)) in rows.zip(times.chunks_exact(2).zip(counts.chunks_exact(2))) {
-        print!(
-            "| {name} | {count} | {:.0} | {:.0} | {:.2} |",
-            t[0].linked,
-            t[0].model,
-            t[0].linked / t[0].model
-        );
+    let figures = section.times.chunks_exact(2).zip(section.counts.chunks_exact(2));
+    for ((name, count), (t, c)) in rows.zip(figures) {
+        print!("| {name} | {count} | {:.0} | {:.0} | {:.2} |", t[0].linked, t[0].model, t[0].ratio());
         match (c[0], c[1]) {
             (Some(call), Some(alone)) => {
-                let more = beyond(call, alone);
-                print!(" {:.0} | {:.0} | {:.2} |", call.linked, call.model, call.linked / call.model);
+                let more = call.beyond(alone);
+                print!(" {:.0} | {:.0} | {:.2} |", call.linked, call.model, call.ratio());
                 println!(" {:.0} | {:.0} |", more.linked, more.model);
             }
             _ => println!(" | | | | |"),
-        }
-    }
-}
-
-/// Rattle's thousands of instructions before there was an index, on the same states: of the shape alone and of stage 1, at 100 keys, in the
-/// longest state, and by the number of live chunks.
-const BEFORE: [(f64, f64); 8] = [
-    (15.1, 15.4),
-    (29.9, 30.6),
-    (14.1, 14.3),
-    (14.3, 14.5),
-    (14.7, 15.0),
-    (15.6, 15.9),
-    (17.2, 17.6),
-    (20.2, 20.8),
-];
-
-/// The shape alone and stage 1, on the states of the sections above.
-pub fn shape_page(counts: &[[Option<Figures>; 2]]) {
-    println!("\n## What the index costs the shape\n\nThe shape alone and a whole call at stage 1, in Rattle's thousands of instructions: before there was an index, as this page then had them, and now.\n");
-    println!("| State | the shape before | now | more | 1 locate before | now | more |\n|---|---|---|---|---|---|---|");
-    let chunks = CHUNKS.map(|count| format!("{count} live"));
-    let states = ["100 keys".to_string(), "the longest".to_string()].into_iter().chain(chunks);
-    for ((state, before), counts) in states.zip(BEFORE).zip(counts) {
-        if let [Some(shape), Some(locate)] = counts {
-            let [shape, locate] = [shape, locate].map(|count| count.linked / 1000.0);
-            print!("| {state} | {:.1} | {shape:.1} | {:.1} |", before.0, shape - before.0);
-            println!(" {:.1} | {locate:.1} | {:.1} |", before.1, locate - before.1);
         }
     }
 }

@@ -1,4 +1,4 @@
-//! Measuring: nanoseconds of the two sides in turn, and instructions by callgrind.
+//! Measuring: nanoseconds of the sides in turn, and instructions by callgrind.
 use compare::states::Case;
 use compare::{linked_call, model_call, Call};
 use model::words::Words;
@@ -9,10 +9,53 @@ use std::time::Instant;
 
 pub const RUNS: usize = 11;
 
+/// Of Rattle's call, of Rust's, and of one pass over the words.
 #[derive(Clone, Copy)]
 pub struct Figures {
     pub linked: f64,
     pub model: f64,
+    pub pass: f64,
+}
+
+impl Figures {
+    /// The same made of each side.
+    pub fn each(of: impl Fn(fn(&Figures) -> f64) -> f64) -> Figures {
+        Figures {
+            linked: of(|f| f.linked),
+            model: of(|f| f.model),
+            pass: of(|f| f.pass),
+        }
+    }
+
+    /// What a call takes beyond another.
+    pub fn beyond(self, other: Figures) -> Figures {
+        Figures::each(|side| side(&self) - side(&other))
+    }
+
+    /// Rattle to Rust.
+    pub fn ratio(&self) -> f64 {
+        self.linked / self.model
+    }
+
+    /// Rattle to the pass.
+    pub fn to_the_pass(&self) -> f64 {
+        self.linked / self.pass
+    }
+}
+
+type Pass = unsafe extern "C" fn(*const *const u64, *const usize) -> u64;
+
+extern "C" {
+    /// `tests/pass.c`: the sum of all words.
+    fn pass_over(tables: *const *const u64, lengths: *const usize) -> u64;
+    /// The same, compiled so that it takes one word at a time.
+    fn pass_by_words(tables: *const *const u64, lengths: *const usize) -> u64;
+}
+
+fn sum(w: &Words, by: Pass) -> u64 {
+    let (tables, lengths) = (w.each_ref().map(|table| table.as_ptr()), w.each_ref().map(|table| table.len()));
+    // each pointer comes from a Vec of its length
+    black_box(unsafe { by(tables.as_ptr(), lengths.as_ptr()) })
 }
 
 #[no_mangle]
@@ -30,6 +73,12 @@ pub extern "C" fn measured_model(t: &mut Tables, call: &Call, answer: &mut [u64;
     *answer = [first, second];
     black_box(answer);
     number
+}
+
+#[no_mangle]
+#[inline(never)]
+pub extern "C" fn measured_pass(w: &Words) -> u64 {
+    sum(w, pass_over)
 }
 
 /// Under callgrind, writes the counts since the last mark to a file of their own (valgrind's client request for it); else does nothing.
@@ -58,13 +107,13 @@ pub fn median(mut xs: Vec<f64>) -> f64 {
     xs[xs.len() / 2]
 }
 
-/// Nanoseconds of what is timed, the median of so many times, a clock's reading taken off; `ready` comes before each.
-pub fn timed(times: usize, mut ready: impl FnMut(), mut run: impl FnMut()) -> f64 {
+/// Nanoseconds of what is timed, the median of so many times, a clock's reading taken off; `ready` comes before each, with its number.
+pub fn timed(times: usize, mut ready: impl FnMut(usize), mut run: impl FnMut()) -> f64 {
     let (mut spent, mut clock) = (vec![], vec![]);
-    for _ in 0..times {
+    for i in 0..times {
         let at = Instant::now();
         clock.push(black_box(at).elapsed().as_nanos() as f64);
-        ready();
+        ready(i);
         let at = Instant::now();
         run();
         spent.push(at.elapsed().as_nanos() as f64);
@@ -72,36 +121,71 @@ pub fn timed(times: usize, mut ready: impl FnMut(), mut run: impl FnMut()) -> f6
     median(spent) - median(clock)
 }
 
-/// One run of the two sides, one after the other.
-fn run(tables: &Tables, words: &Words, times: usize, by: &mut dyn FnMut(&mut dyn FnMut(Call) -> Report)) -> Figures {
+/// One run of the sides, one after the other, each time on the next state; the pass goes once over the words that Rattle's call is made on.
+fn run(states: &[(&Tables, &Words)], times: usize, by: &mut dyn FnMut(&mut dyn FnMut(Call) -> Report)) -> Figures {
     let by = std::cell::RefCell::new(by);
-    let w = std::cell::RefCell::new(words.clone());
-    let t = std::cell::RefCell::new(tables.clone());
+    let w = std::cell::RefCell::new(states[0].1.clone());
+    let t = std::cell::RefCell::new(states[0].0.clone());
     let mut answer = [0; 2];
-    let linked = timed(
-        times,
-        || w.borrow_mut().iter_mut().zip(words).for_each(|(a, b)| a.copy_from_slice(b)),
-        || by.borrow_mut()(&mut |call| report(measured_linked(&mut w.borrow_mut(), &call, &mut answer))),
-    );
+    let restore = |i: usize| {
+        w.borrow_mut()
+            .iter_mut()
+            .zip(states[i % states.len()].1)
+            .for_each(|(a, b)| a.copy_from_slice(b))
+    };
+    let linked = timed(times, restore, || {
+        by.borrow_mut()(&mut |call| report(measured_linked(&mut w.borrow_mut(), &call, &mut answer)))
+    });
     let model = timed(
         times,
-        || t.borrow_mut().clone_from(tables),
+        |i| t.borrow_mut().clone_from(states[i % states.len()].0),
         || by.borrow_mut()(&mut |call| report(measured_model(&mut t.borrow_mut(), &call, &mut answer))),
     );
-    Figures { linked, model }
+    let pass = timed(times, restore, || {
+        measured_pass(&w.borrow());
+    });
+    Figures { linked, model, pass }
 }
 
-fn medians(runs: &[Figures]) -> Figures {
-    Figures {
-        linked: median(runs.iter().map(|f| f.linked).collect()),
-        model: median(runs.iter().map(|f| f.model).collect()),
+/// The figures of each run.
+#[derive(Clone, Default)]
+pub struct Runs(Vec<Figures>);
+
+impl Runs {
+    pub fn medians(&self) -> Figures {
+        Figures::each(|side| median(self.0.iter().map(side).collect()))
+    }
+
+    /// The median of what the runs come to, each by itself.
+    pub fn ratio(&self, of: impl Fn(&Figures) -> f64) -> f64 {
+        median(self.0.iter().map(of).collect())
+    }
+
+    /// Rattle's to another call's, run by run.
+    pub fn to(&self, other: &Runs) -> f64 {
+        median(self.0.iter().zip(&other.0).map(|(a, b)| a.linked / b.linked).collect())
     }
 }
 
-/// The medians of the runs, the two sides in turn within each.
-pub fn measure(tables: &Tables, words: &Words, times: usize, mut by: impl FnMut(&mut dyn FnMut(Call) -> Report)) -> Figures {
-    let runs: Vec<Figures> = (0..RUNS).map(|_| run(tables, words, times, &mut by)).collect();
-    medians(&runs)
+/// A case's call to a pass that takes one word at a time, the two in turn: the median of the runs' own ratios.
+pub fn to_words(c: &Case) -> f64 {
+    let w = std::cell::RefCell::new(c.words.clone());
+    let ratio = |_| {
+        let call = run(&c.states(), 100, &mut |call| {
+            black_box(call(c.call));
+        });
+        let restore = |_| w.borrow_mut().iter_mut().zip(&c.words).for_each(|(a, b)| a.copy_from_slice(b));
+        let pass = timed(100, restore, || {
+            sum(&w.borrow(), pass_by_words);
+        });
+        call.linked / pass
+    };
+    median((0..RUNS).map(ratio).collect())
+}
+
+/// The sides in turn within each run.
+pub fn measure(tables: &Tables, words: &Words, times: usize, mut by: impl FnMut(&mut dyn FnMut(Call) -> Report)) -> Runs {
+    Runs((0..RUNS).map(|_| run(&[(tables, words)], times, &mut by)).collect())
 }
 
 /// Enough of a report to go on by.
@@ -114,19 +198,19 @@ fn report(number: u64) -> Report {
 }
 
 /// Each case's call, the cases in turn within each run.
-pub fn measure_beside(cases: &[Case], times: usize) -> Vec<Figures> {
-    let mut runs = vec![vec![]; cases.len()];
+pub fn measure_beside(cases: &[Case], times: usize) -> Vec<Runs> {
+    let mut all = vec![Runs::default(); cases.len()];
     for _ in 0..RUNS {
-        for (c, runs) in cases.iter().zip(&mut runs) {
-            runs.push(run(&c.tables, &c.words, times, &mut |call| {
+        for (c, runs) in cases.iter().zip(&mut all) {
+            runs.0.push(run(&c.states(), times, &mut |call| {
                 black_box(call(c.call));
             }));
         }
     }
-    runs.iter().map(|runs| medians(runs)).collect()
+    all
 }
 
-/// Makes each case's call once on either side, a mark before and after.
+/// Makes each case's call once on either side and the pass over its words once, a mark before and after each.
 pub fn once<'a>(cases: impl Iterator<Item = &'a Case>) {
     let mut answer = [0; 2];
     for c in cases {
@@ -136,7 +220,10 @@ pub fn once<'a>(cases: impl Iterator<Item = &'a Case>) {
         mark();
         let also = measured_model(&mut tables, &c.call, &mut answer);
         mark();
+        let sum = measured_pass(&c.words);
+        mark();
         assert_eq!(told, also);
+        assert_eq!(sum, c.words.iter().flatten().fold(0, |sum: u64, word| sum.wrapping_add(*word)));
     }
 }
 
@@ -160,8 +247,9 @@ pub fn instructions(count: usize) -> Option<Vec<Figures>> {
     let counts = (0..count)
         .map(|i| {
             Some(Figures {
-                linked: total(3 * i + 2)?,
-                model: total(3 * i + 3)?,
+                linked: total(4 * i + 2)?,
+                model: total(4 * i + 3)?,
+                pass: total(4 * i + 4)?,
             })
         })
         .collect();
