@@ -90,6 +90,7 @@ enum { KINDS = sizeof operations / sizeof *operations };
 static unsigned long asked[KINDS], value[KINDS], absent[KINDS], done[KINDS], yes[KINDS], no[KINDS];
 static unsigned long frozen, full, lost, pairs, refused[11];
 static unsigned long begun, waited, released;
+static const unsigned long ANY = (unsigned long)-1;
 
 static void count(uint64_t operation, uint64_t report)
 {
@@ -143,11 +144,12 @@ static void balance(uint64_t key)
         refused[answer[0]]++;
 }
 
-/* a scan of all, alone: keys that strictly rise, or fall, and what they are worth together */
-static int list(uint64_t scan)
+/* a scan from one key to another, both counted, alone: keys that strictly rise, or fall, and what they are worth together; true
+ * where as many are present as expected */
+static int list(uint64_t scan, uint64_t from, uint64_t to, unsigned long expected)
 {
     unsigned long present = 0, steps = 0;
-    uint64_t last = 0, sum = 0, report = start(0, scan, 0, UINT64_MAX, 0);
+    uint64_t last = 0, sum = 0, report = start(0, scan, from, to, 0);
     while (report == KAMRDUCH_MOVED_ON || report == KAMRDUCH_PAIR) {
         report = step(0);
         steps++;
@@ -159,9 +161,11 @@ static int list(uint64_t scan)
             present++;
         }
     }
-    printf("%s: %lu keys present, the last %" PRIu64 ", ", operations[scan], present, last);
-    printf("values' sum %" PRIu64 ", %lu steps\n", sum, steps);
-    return report == KAMRDUCH_FINISHED_DONE;
+    printf("%s: %lu keys present, ", operations[scan], present);
+    if (present != 0)
+        printf("the last %" PRIu64 ", values' sum %" PRIu64 ", ", last, sum);
+    printf("%lu steps\n", steps);
+    return report == KAMRDUCH_FINISHED_DONE && (present == expected || expected == ANY);
 }
 
 /* a put or a remove by task 0 alone, to its end: prints what stood there, and is true where that is as expected */
@@ -220,11 +224,16 @@ int main(void)
     printf("refusals: %lu; chunks: %lu live, %" PRIu64 " indexed, ", refusals, live, host.directory[KAMRDUCH_DIRECTORY_INDEXED]);
     printf("%lu slots used\n", used);
 
-    if (!list(KAMRDUCH_SCAN) || !list(KAMRDUCH_SCAN_DOWN))
+    if (!list(KAMRDUCH_SCAN, 0, UINT64_MAX, ANY) || !list(KAMRDUCH_SCAN_DOWN, 0, UINT64_MAX, ANY))
         return 1;
     /* what was replaced: a put of a new key and one over it, a remove of a present key and one of an absent */
     if (!tells(KAMRDUCH_PUT, 400, 7, KAMRDUCH_FINISHED_ABSENT, 0) || !tells(KAMRDUCH_PUT, 400, 8, KAMRDUCH_FINISHED_VALUE, 7) ||
         !tells(KAMRDUCH_REMOVE, 400, 0, KAMRDUCH_FINISHED_VALUE, 8) || !tells(KAMRDUCH_REMOVE, 400, 0, KAMRDUCH_FINISHED_ABSENT, 0))
+        return 1;
+    /* a sentinel under the largest key: a scan's upper end counts, so that one of all keys ends with it or begins there */
+    if (!tells(KAMRDUCH_PUT, UINT64_MAX, 9, KAMRDUCH_FINISHED_ABSENT, 0) || !list(KAMRDUCH_SCAN, 399, UINT64_MAX, 2) ||
+        !list(KAMRDUCH_SCAN, UINT64_MAX, UINT64_MAX, 1) || !list(KAMRDUCH_SCAN_DOWN, UINT64_MAX, UINT64_MAX, 1) ||
+        !list(KAMRDUCH_SCAN_DOWN, 400, UINT64_MAX - 1, 0))
         return 1;
     printf("calls: %lu, interrupts are %s\n", masks, masked ? "masked" : "unmasked");
     return 0;

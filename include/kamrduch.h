@@ -111,9 +111,16 @@ enum kamrduch_operation {
     KAMRDUCH_UPSERT = 4,        /* done; stores the argument where the key is absent, else applies the function with it */
     KAMRDUCH_COMPUTE = 5,       /* true or false */
     KAMRDUCH_REMOVE = 6,        /* the value that it removed, or absent */
-    KAMRDUCH_SCAN = 7,          /* pairs from the key up to the argument, left out; then done */
+    KAMRDUCH_SCAN = 7,          /* pairs from the key up to the argument, both counted; then done */
     KAMRDUCH_SCAN_DOWN = 8      /* the same range, from the largest key down */
 };
+
+/* A scan's two ends are keys of its range: 0 to UINT64_MAX is every key, and a key to itself is that key alone. An upward scan's
+ * cursor, the task's key, is one above the key of the last pair that it gave, or the minimum key of the chunk that it has gone on
+ * to; past a pair at UINT64_MAX there is no such key, so the cursor stays there and the upper end, the task's argument, becomes
+ * UINT64_MAX - 1. With its cursor above its upper end an upward scan finishes at its next step. A range without a present key takes
+ * steps too, so many where nobody else is at work: with m live chunks that have keys of the range, upward m, and one more unless the
+ * last of them is the last live chunk; downward m + 1, and one more for each linked entry in range, whose key has been removed. */
 
 /* A put and a remove answer the value that the key had just before the step that decides: stage 5 of either, or a put's swap at stage
  * 11, where it had none. What other tasks stored up to that step counts, and nothing that they do after it. A remove that answers

@@ -4,9 +4,10 @@ use mathlib.Core.List.{List, [], _∷_, map}
 use Rattle.rules.specs.Words.{limits}
 use Rattle.rules.specs.Tables.{Tables}
 use Rattle.rules.specs.Calls.{fresh, does, calls}
-use Rattle.rules.specs.Cases.{Line, Said, runs, says, markedCases}
-use Rattle.rules.specs.Cases.Line.{reports, shows}
-use Rattle.rules.specs.Cases.Said.{heard, seen}
+use Rattle.rules.specs.Lines.{Line, Said, runs, says}
+use Rattle.rules.specs.Lines.Line.{reports, shows}
+use Rattle.rules.specs.Lines.Said.{heard, seen}
+use Rattle.rules.specs.Cases.{markedCases}
 use Rattle.rules.proofs.Marked as rules
 use Rattle.facts.specs.Reached.{Reached}
 use Rattle.facts.proofs.Reaching.{limits-limited}

@@ -1,5 +1,5 @@
 -- The three demands, for a reader who knows document 01. Beyond the rules (crates/rules/specs) these files, and no other, are to be believed; the rest serves proofs:
---   this file 67   crates/statements/specs/Runs.antt 65, Answers.antt 108, Sound.antt 88   crates/calls/specs/Promise.antt 65   crates/host/specs/Linked.antt 22 (lines)
+--   this file 68   crates/statements/specs/Runs.antt 65, Answers.antt 109, Sound.antt 88   crates/calls/specs/Promise.antt 65   crates/host/specs/Linked.antt 22 (lines)
 -- What the code ensures is the contract of each public call (crates/directory, crates/host), with no `requires`: Promise, Makes and Answered below, at the limits.
 use Prim.Native.Nat.{ℕ, suc}
 use mathlib.Core.Path.{_≡_}
@@ -16,7 +16,8 @@ use Rattle.rules.specs.Rebalance.{Outcome, gives}
 use Rattle.rules.specs.Calls.{Call, fresh, calls}
 use Rattle.rules.specs.Calls.Call.{step}
 use Rattle.rules.specs.Occasions.{occasions, refusal, RefusedBy}
-use Rattle.rules.specs.Cases.{runs, says, markedCases}
+use Rattle.rules.specs.Lines.{runs, says}
+use Rattle.rules.specs.Cases.{markedCases}
 use Rattle.rules.specs.Broken.{brokenTables}
 use Rattle.calls.specs.Promise.{Lending, tablesOf, Obeys, Promise, Makes}
 use Rattle.host.specs.Linked.{Says, Answered}
@@ -61,7 +62,7 @@ pub record Kamrduch : Type 0 where
   pub at-limits : Demands limits
   -- no insertion is refused a handle while fewer than 512 keys are present
   pub keys : promised limits ≡ 512
-  -- something finishes: the marked cases, M1 to M12, three more, those of scans down, of former values and of the index, every report and what the tables then show
+  -- something finishes: the marked cases, M1 to M12, three more, those of scans down, of former values, of the index and of a scan's upper end, every report and what the tables then show
   pub marked : map (runs calls (fresh limits)) markedCases ≡ map (map says) markedCases
   -- tables that break one clause of the shape, each clause by one of the list: every call on them is refused by 10
   pub broken : (s : Tables) → List·Memᴰ s brokenTables → (c : Call) → calls limits s c ≡ gives s (report.Refused 10)

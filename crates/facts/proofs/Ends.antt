@@ -5,7 +5,7 @@ use mathlib.Core.Logic.{_⊎_, inl, inr, _≢_}
 use mathlib.Core.Bool.{true}
 use mathlib.Core.List.{List}
 use native.Mathlib.Omega.{arith}
-use lib.Dec.{eqb, ltb, leb}
+use lib.Dec.{eqb, ltb}
 use lib.ListN.{set}
 use borrow.Author.Tests.{ltb-true, eqb-true}
 use Rattle.rules.specs.declared.Sizes.{Sizes}
@@ -17,10 +17,10 @@ use Rattle.rules.specs.declared.Report.{Report}
 use Rattle.rules.specs.declared.Write.the-variants as write
 use Rattle.rules.specs.Words.{pick, _and_, NONE, noEntry, noHandle, live, scanDown}
 use Rattle.rules.specs.Tables.{Tables, row, chunk, entry}
-use Rattle.rules.specs.Walks.{locate, find, firstPresent, InRange}
+use Rattle.rules.specs.Walks.{find, InRange}
 use Rattle.rules.specs.Stages
 use Rattle.rules.specs.Shape.{numbers, hold, flagAs, fitsOperation}
-use Rattle.laws.proofs.EachStage.{each-stage}
+use Rattle.laws.proofs.EachStage.{each-stage, scan-cases}
 use Rattle.laws.proofs.Tests.{picked}
 use Rattle.statements.specs.Sound.{Limited}
 use Rattle.facts.specs.Facts.{Tabled, Holds, holdAt, EntryHeld, Tasked}
@@ -98,8 +98,8 @@ module _ (z : Sizes) (lim : Limited z) (s : Tables) (h : Tabled z (s .directory)
       (λ _. Going.finished z lim s h t r _ _ tt)
 
   -- ---- 22 scan
-  cursor-right : t .stage ≡ 22 → (k : ℕ) → Tasked z (s .chunks) (s .entries) (Stages.cursorAt t k)
-  cursor-right e k =
+  ends-right : t .stage ≡ 22 → (k a : ℕ) → Tasked z (s .chunks) (s .entries) (Stages.withEnds t k a)
+  ends-right e k a =
       record {
         idle = λ q. absurd (busy q);
         holds = λ ne. let H = r .holds ne in record { fits = H .fits; function = H .function; chunk = H .chunk; entry = H .entry; old = H .old; new = H .new; published = H .published; swapped = H .swapped };
@@ -114,11 +114,7 @@ module _ (z : Sizes) (lim : Limited z) (s : Tables) (h : Tabled z (s .directory)
       H = Going.holds-at z lim s h t r 22 e (omega arith)
 
   scans-fine : t .stage ≡ 22 → Fine z s (Stages.scans z s t)
-  scans-fine e =
-      picked (Fine z s) (leb (t .argument) (t .key)) (λ _. Going.finished z lim s h t r _ _ tt)
-      (λ _. picked (Fine z s) (ltb (firstPresent z s (locate z s (t .key)) (t .key) (t .argument) .0) (z .entries))
-      (λ _. record { allowed = tt; task = λ ts ss. cursor-right e _ })
-      (λ _. picked (Fine z s) (ltb (chunk s (locate z s (t .key)) .next .0) (z .chunks)) (λ _. record { allowed = tt; task = λ ts ss. cursor-right e _ }) (λ _. Going.finished z lim s h t r _ _ tt)))
+  scans-fine e = scan-cases z s 0 t (Fine z s) (Going.finished z lim s h t r _ _ tt) (λ k a. record { allowed = tt; task = λ ts ss. ends-right e k a }) (λ k a q v. record { allowed = tt; task = λ ts ss. ends-right e k a })
 
   -- ---- 23 scan down
   scans-down-fine : (n : ℕ) → t .stage ≡ 23 → Fine z s (Stages.scansDown z s t n)

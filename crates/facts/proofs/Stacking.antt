@@ -219,8 +219,8 @@ module _ (z : Sizes) (lim : Limited z) (s : Tables) (kept : Kept z s) where
     short : length (linked z s next) ≤ z .entries
     short = le-trans (links-length z (s .entries) next (chunk s next .used) 0 (chunk s next .head) (linked z s next) links) few
 
-    pub takes : Within z (s .entries) next (t .key) (Stages.under z s t) 0 (linked z s next) (Stages.fillsWith z s t)
-    takes = within-view z (s .entries) next (t .key) (Stages.under z s t) (chunk s next .used) few (lim .entries) (z .entries) 0 (chunk s next .head) (linked z s next) short links
+    pub takes : Within z (s .entries) next (t .key) (Stages.upTo z s t) 0 (linked z s next) (Stages.fillsWith z s t)
+    takes = within-view z (s .entries) next (t .key) (Stages.upTo z s t) (chunk s next .used) few (lim .entries) (z .entries) 0 (chunk s next .head) (linked z s next) short links
 
     pub takes-small : Every (λ e. e .0 < z .entries) (Stages.fillsWith z s t)
     takes-small e m = le-trans (links-below z (s .entries) next (chunk s next .used) 0 (chunk s next .head) (linked z s next) links e (takes .listed e m)) few

@@ -15,7 +15,7 @@ use Rattle.rules.specs.Words.{pick, NONE, noHandle}
 use Rattle.rules.specs.Tables.{Tables, entry, task}
 use Rattle.rules.specs.Walks.{lowestFree}
 use Rattle.rules.specs.Stages
-use Rattle.laws.proofs.EachStage.{each-stage}
+use Rattle.laws.proofs.EachStage.{each-stage, scan-cases}
 use Rattle.laws.proofs.Tests.{picked}
 use Rattle.statements.specs.Sound.{Limited}
 use Rattle.facts.specs.Facts.{Tabled, Holds, holdAt, Tasked}
@@ -119,7 +119,7 @@ module _ (z : Sizes) (lim : Limited z) (s : Tables) (h : Tabled z (s .directory)
         findsAgain = search passing;
         readsAgain = search passing;
         endsRemove = search passing;
-        scans = λ e. let H = holds-at 22 e (omega arith) in search (passing, eqb-true (t .old .0) NONE (H .old), eqb-true (t .new .0) NONE (H .new));
+        scans = λ e. let H = holds-at 22 e (omega arith) in scan-cases z s n t Passed (search passing) (λ _ _. search (passing, eqb-true (t .old .0) NONE (H .old), eqb-true (t .new .0) NONE (H .new))) (λ _ _ _ _. search (passing, eqb-true (t .old .0) NONE (H .old), eqb-true (t .new .0) NONE (H .new)));
         scansDown = λ e. let H = holds-at 23 e (omega arith) in search (passing, eqb-true (t .old .0) NONE (H .old), eqb-true (t .new .0) NONE (H .new));
         stays = search passing;
       })

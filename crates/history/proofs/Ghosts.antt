@@ -59,7 +59,7 @@ module _ (m : List Pair) (op k a f : ℕ) where
     kept-numbers = by-test (eqb op get or eqb op remove) (λ e. without (⊎-map (eqb-true op get) (eqb-true op remove) (or-cases _ _ e)) (lookup m k)) (λ e. with-argument e (lookup m k))
 
   pub asked : (t : Task) → Started op k a f t → isScan op ≡ false → sequential m (t .operation) (t .key) (t .argument) (t .function) ≡ sequential m op k a f
-  asked t st ne = rw (st .operation, st .key ne, st .argument) (kept-numbers (t .function) (st .function))
+  asked t st ne = rw (st .operation, st .key ne, st .argument ne) (kept-numbers (t .function) (st .function))
 
 -- a task that shows none looks
 looking : {z : Sizes} {x : Tables} {t : Task} → Gone z x t → (looksIn (t .stage) ≡ true) ⊎ (looksOld (t .stage) ≡ true)
@@ -120,7 +120,7 @@ module _ (z : Sizes) (lim : Limited z) (run : ℕ → Call) (n op k a f j : ℕ)
   begins-ghost : (i : ℕ) → j ≡ i → (s : Tables) → GhostOf i (started z s op k a f)
   begins-ghost i e s =
       record {
-        started = record { operation = refl; function = λ u. rw u refl; argument = refl; key = λ _. refl };
+        started = record { operation = refl; function = λ u. rw u refl; argument = λ _. refl; key = λ _. refl };
         decided = inl (first .0, λ x since le _. none x since le);
         stepped = λ l. absurd (blind l);
         seen = λ _ y. absurd (blind (looking y));
@@ -196,7 +196,7 @@ module _ (z : Sizes) (lim : Limited z) (run : ℕ → Call) (n op k a f j : ℕ)
 
       -- what it was started with stays
       onward : Onward t x → Started op k a f (x .task)
-      onward w = record { operation = w .operation ∙ g .started .operation; function = λ u. w .function (ap usesFunction (g .started .operation) ∙ u) ∙ g .started .function u; argument = w .argument ∙ g .started .argument; key = λ ne. w .key (ap isScan (g .started .operation) ∙ ne) ∙ is-key ne }
+      onward w = record { operation = w .operation ∙ g .started .operation; function = λ u. w .function (ap usesFunction (g .started .operation) ∙ u) ∙ g .started .function u; argument = λ ne. w .argument (ap isScan (g .started .operation) ∙ ne) ∙ g .started .argument ne; key = λ ne. w .key (ap isScan (g .started .operation) ∙ ne) ∙ is-key ne }
 
       pub undecided : past t ≡ false → NeverDecides z run n j i
       undecided e = ⊎-elim (λ w. w .1) (λ w. absurd (false≢true (sym e ∙ w .0))) (g .decided)

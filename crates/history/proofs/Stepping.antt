@@ -20,10 +20,10 @@ use Rattle.rules.specs.declared.Report.{Report}
 use Rattle.rules.specs.declared.Report.the-variants as report
 use Rattle.rules.specs.Words.{pick, _and_, _or_, noEntry, noHandle, get, put, putIfAbsent, upsert, compute, remove, isScan, inserts}
 use Rattle.rules.specs.Tables.{Tables, chunk, entry, value, mark, task}
-use Rattle.rules.specs.Walks.{locate, find, lowestFree, firstPresent, undeleted}
+use Rattle.rules.specs.Walks.{locate, find, lowestFree, undeleted}
 use Rattle.rules.specs.Stages
 use Rattle.rules.specs.Map.{Pair, effect, onAbsent}
-use Rattle.laws.proofs.EachStage.{each-stage}
+use Rattle.laws.proofs.EachStage.{each-stage, scan-cases}
 use Rattle.laws.proofs.Tests.{picked, by-test, or-cases, or-left, or-right}
 use Rattle.statements.specs.Sound.{Limited}
 use Rattle.facts.specs.Facts.{Holds, holdAt, EntryHeld, Kept}
@@ -109,7 +109,7 @@ module _ (z : Sizes) (lim : Limited z) (s : Tables) (r : Reached z s) (n : ℕ) 
 
   module _ {m : ℕ} {c : ChunkNo} {e : EntryNo} {o h : HandleNo} {p w : ℕ} {wr : Write} {rep : Report} where
     onward : eqb m 0 ≡ false → ending rep ≡ false → Onward t (goesBy t m c e o h p w wr rep)
-    onward ne quiet = record { operation = refl; function = λ _. refl; argument = refl; key = λ _. refl; busy = eqb-false m 0 ne; quiet = quiet }
+    onward ne quiet = record { operation = refl; function = λ _. refl; argument = λ _. refl; key = λ _. refl; busy = eqb-false m 0 ne; quiet = quiet }
 
     -- where it has not decided
     goes : Stands false → past (Stages.goesTo t m c e o h p w) ≡ false → eqb m 0 ≡ false → ending rep ≡ false → Follows z s n (goesBy t m c e o h p w wr rep) → By (goesBy t m c e o h p w wr rep)
@@ -308,10 +308,7 @@ module _ (z : Sizes) (lim : Limited z) (s : Tables) (r : Reached z s) (n : ℕ) 
 
   -- ---- 22
   scans-goes : t .stage ≡ 22 → By (Stages.scans z s t)
-  scans-goes e =
-      picked By (leb (t .argument) (t .key)) (λ _. Goes.answers refl refl (Ends.scanned is-scan))
-      (λ _. picked By (ltb (firstPresent z s (locate z s (t .key)) (t .key) (t .argument) .0) (z .entries)) (λ _. on-from _ _ refl)
-      (λ _. picked By (ltb (chunk s (locate z s (t .key)) .next .0) (z .chunks)) (λ _. on-from _ _ refl) (λ _. Goes.answers refl refl (Ends.scanned is-scan))))
+  scans-goes e = scan-cases z s n t By (Goes.answers refl refl (Ends.scanned is-scan)) (λ k a. on-from k a _ refl) (λ k a q v. on-from k a _ refl)
     where
       st : Stands false
       st = stands 22 e refl refl
@@ -319,8 +316,8 @@ module _ (z : Sizes) (lim : Limited z) (s : Tables) (r : Reached z s) (n : ℕ) 
       is-scan : isScan (t .operation) ≡ true
       is-scan = passes 22 isScan refl e (omega arith)
 
-      on-from : (k : ℕ) (rep : Report) → ending rep ≡ false → By (record { task = Stages.cursorAt t k; write = write.Nothing; report = rep })
-      on-from k rep quiet = Goes.on (record { operation = refl; function = λ _. refl; argument = refl; key = λ ne. absurd (false≢true (sym ne ∙ is-scan)); busy = λ q. omega (arith, e, q); quiet = quiet }) (refl, λ is. absurd (false≢true (sym (st .0) ∙ is))) (st .1) (nowhere (record { task = Stages.cursorAt t k; write = write.Nothing; report = rep }) (rw e refl))
+      on-from : (k a : ℕ) (rep : Report) → ending rep ≡ false → By (record { task = Stages.withEnds t k a; write = write.Nothing; report = rep })
+      on-from k a rep quiet = Goes.on (record { operation = refl; function = λ _. refl; argument = λ ne. absurd (false≢true (sym ne ∙ is-scan)); key = λ ne. absurd (false≢true (sym ne ∙ is-scan)); busy = λ q. omega (arith, e, q); quiet = quiet }) (refl, λ is. absurd (false≢true (sym (st .0) ∙ is))) (st .1) (nowhere (record { task = Stages.withEnds t k a; write = write.Nothing; report = rep }) (rw e refl))
 
   -- ---- 23
   scans-down-goes : t .stage ≡ 23 → By (Stages.scansDown z s t n)
@@ -333,11 +330,11 @@ module _ (z : Sizes) (lim : Limited z) (s : Tables) (r : Reached z s) (n : ℕ) 
       st = stands 23 e refl refl
 
       stay : (rep : Report) → ending rep ≡ false → By (record { task = t; write = write.Nothing; report = rep })
-      stay rep quiet = Goes.on (record { operation = refl; function = λ _. refl; argument = refl; key = λ _. refl; busy = λ q. omega (arith, e, q); quiet = quiet }) (refl, λ is. absurd (false≢true (sym (st .0) ∙ is))) (st .1) (nowhere (record { task = t; write = write.Nothing; report = rep }) (rw e refl))
+      stay rep quiet = Goes.on (record { operation = refl; function = λ _. refl; argument = λ _. refl; key = λ _. refl; busy = λ q. omega (arith, e, q); quiet = quiet }) (refl, λ is. absurd (false≢true (sym (st .0) ∙ is))) (st .1) (nowhere (record { task = t; write = write.Nothing; report = rep }) (rw e refl))
 
   -- ---- a number that is no stage
   stays-goes : t .stage ≢ 0 → decides z s t ≡ false → By (Stages.stays z s t)
-  stays-goes busy u = Goes.on (record { operation = refl; function = λ _. refl; argument = refl; key = λ _. refl; busy = busy; quiet = refl }) (refl, λ _. refl) u same
+  stays-goes busy u = Goes.on (record { operation = refl; function = λ _. refl; argument = λ _. refl; key = λ _. refl; busy = busy; quiet = refl }) (refl, λ _. refl) u same
     where
       same : Follows z s n (Stages.stays z s t)
       same (Gone.chunk q gone) = inl (Gone.chunk q (λ v. gone (shown-put t v)))

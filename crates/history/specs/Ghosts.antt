@@ -16,11 +16,11 @@ use Rattle.statements.specs.Runs.{tablesAt, mapAt, taskAt, DecidesAt, Stepped}
 use Rattle.statements.specs.Answers.{NeverDecides, ByChange}
 use Rattle.history.specs.Goes.{past, looksIn, looksOld, Gone}
 
--- the row has what the operation was started with, a function where it uses one: "Arguments an operation doesn't use are kept as 0", and a scan's key is its cursor
+-- the row has what the operation was started with, a function where it uses one: "Arguments an operation doesn't use are kept as 0", and a scan's key and argument are its cursor and its upper end
 pub record Started (op k a f : ℕ) (t : Task) : Type 0 where
   pub operation : t .operation ≡ op
   pub function : usesFunction op ≡ true → t .function ≡ f
-  pub argument : t .argument ≡ pick (eqb op get or eqb op remove) 0 a
+  pub argument : isScan op ≡ false → t .argument ≡ pick (eqb op get or eqb op remove) 0 a
   pub key : isScan op ≡ false → t .key ≡ k
 
 module _ (z : Sizes) (run : ℕ → Call) where

@@ -58,7 +58,7 @@ ending r = isAnswer r or (eqb (told r .number) 0 and eqb (told r .first) 9)
 pub record Onward (t : Task) (x : Decision) : Type 0 where
   pub operation : x .task .operation ≡ t .operation
   pub function : usesFunction (t .operation) ≡ true → x .task .function ≡ t .function
-  pub argument : x .task .argument ≡ t .argument
+  pub argument : isScan (t .operation) ≡ false → x .task .argument ≡ t .argument
   pub key : isScan (t .operation) ≡ false → x .task .key ≡ t .key
   pub busy : x .task .stage ≢ 0
   pub quiet : ending (x .report) ≡ false

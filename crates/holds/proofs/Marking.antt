@@ -20,7 +20,7 @@ use Rattle.rules.specs.Words.{pick, NONE, noHandle, get, put, putIfAbsent, remo
 use Rattle.rules.specs.Tables.{Tables, withOwn, entry, mark, task}
 use Rattle.rules.specs.Walks.{find, lowestFree}
 use Rattle.rules.specs.Stages
-use Rattle.laws.proofs.EachStage.{each-stage}
+use Rattle.laws.proofs.EachStage.{each-stage, scan-cases}
 use Rattle.laws.proofs.Tests.{picked}
 use Rattle.statements.specs.Sound.{Limited}
 use Rattle.facts.specs.Facts.{Holds, holdAt, Kept}
@@ -153,7 +153,7 @@ module _ (z : Sizes) (lim : Limited z) (s : Tables) (kept : Kept z s) (marked : 
         findsAgain = λ e. picked Marks (Stages.hasKey z s t) (λ _. record { old = λ ts ss. old-on 17 e (omega arith) (omega arith) (Stages.goesTo t 18 (t .chunk) (find z s (t .chunk) (t .key)) (t .old) noHandle 0 0) refl; new = λ ts ss b. absurd (never refl b); touches = tt }) (λ _. gone refl refl tt);
         readsAgain = λ e. picked Marks (eqb (entry z s (t .chunk) (t .entry) .handle .0) (t .old .0)) (λ _. keeps-on 18 19 e (omega arith) (omega arith) (omega arith)) (λ _. gone refl refl tt);
         endsRemove = search leaving;
-        scans = λ e. let H = holds-at 22 e (omega arith) in search (leaving, eqb-true (t .old .0) NONE (H .old), eqb-true (t .new .0) NONE (H .new));
+        scans = λ e. let H = holds-at 22 e (omega arith) in scan-cases z s n t Marks (search leaving) (λ _ _. search (leaving, eqb-true (t .old .0) NONE (H .old), eqb-true (t .new .0) NONE (H .new))) (λ _ _ _ _. search (leaving, eqb-true (t .old .0) NONE (H .old), eqb-true (t .new .0) NONE (H .new)));
         scansDown = λ e. let H = holds-at 23 e (omega arith) in search (leaving, eqb-true (t .old .0) NONE (H .old), eqb-true (t .new .0) NONE (H .new));
         stays = λ _. record { old = λ ts ss. marked .old-deleted n; new = λ ts ss. marked .new-written n; touches = tt };
       })

@@ -16,7 +16,7 @@ use Rattle.rules.specs.Words.{pick, noHandle}
 use Rattle.rules.specs.Tables.{Tables, chunk}
 use Rattle.rules.specs.Walks.{linked}
 use Rattle.rules.specs.Stages
-use Rattle.laws.proofs.EachStage.{each-stage}
+use Rattle.laws.proofs.EachStage.{each-stage, scan-cases}
 use Rattle.laws.proofs.Tests.{picked}
 use Rattle.facts.specs.Facts.{Holds, holdAt, Tasked}
 use Rattle.facts.proofs.Numbers.{holding}
@@ -92,7 +92,7 @@ module _ (z : Sizes) (s : Tables) (t : Task) (r : Tasked z (s .chunks) (s .entri
         findsAgain = search publishing;
         readsAgain = search publishing;
         endsRemove = search publishing;
-        scans = search publishing;
+        scans = λ e. scan-cases z s n t Publishes (search publishing) (search publishing) (search publishing);
         scansDown = search publishing;
         stays = search publishing;
       })

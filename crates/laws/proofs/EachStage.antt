@@ -3,13 +3,18 @@ use Prim.Native.Nat.{ℕ}
 use mathlib.Core.Path.{_≡_, sym, subst}
 use mathlib.Core.Logic.{⊎-map}
 use mathlib.Core.Bool.{true, false, false≢true}
-use lib.Dec.{eqb, leb}
+use lib.Dec.{eqb, ltb, leb}
 use borrow.Author.Tests.{eqb-true, leb-true}
 use Rattle.rules.specs.declared.Sizes.{Sizes}
 use Rattle.rules.specs.declared.Task.{Task}
+use Rattle.rules.specs.declared.ChunkNo.{ChunkNo}
+use Rattle.rules.specs.declared.EntryNo.{EntryNo}
 use Rattle.rules.specs.declared.Decision.{Decision}
-use Rattle.rules.specs.Words.{_and_, _or_}
-use Rattle.rules.specs.Tables.{Tables}
+use Rattle.rules.specs.declared.Write.the-variants as write
+use Rattle.rules.specs.declared.Report.the-variants as report
+use Rattle.rules.specs.Words.{_and_, _or_, largest}
+use Rattle.rules.specs.Tables.{Tables, chunk, entry, value}
+use Rattle.rules.specs.Walks.{locate, firstPresent}
 use Rattle.rules.specs.Stages
 use Rattle.rules.proofs.Stages.{stage-cases}
 use Rattle.laws.specs.EachStage.{EachStage}
@@ -50,3 +55,20 @@ module _ (z : Sizes) (s : Tables) (n : ℕ) (t : Task) (P : Decision → Type 0)
   -- what the stage of that number decides, of a task that stands there
   pub at-stage : (m : ℕ) → t .stage ≡ m → P (Stages.stageDoes m n z s t) → P (Stages.decide z s n t)
   at-stage m e = subst (λ (k : ℕ). P (Stages.stageDoes k n z s t)) (sym e)
+
+  -- a scan ends, or it moves on or gives a pair: other ends are left to it then, and all else stays
+  pub scan-cases : P (Stages.finishes write.Nothing report.Done) → ((k a : ℕ) → P (Stages.moves (Stages.withEnds t k a) write.Nothing)) →
+      ((k a q v : ℕ) → P (record { task = Stages.withEnds t k a; write = write.Nothing; report = report.Pair q v })) → P (Stages.scans z s t)
+  scan-cases ends on pair =
+      picked P (ltb (t .argument) (t .key)) (λ _. ends)
+      (λ _. picked P (ltb (e .0) (z .entries)) (λ _. picked pairs (ltb (entry z s c e .key) largest) (λ _. pair _ _ _ _) (λ _. pair _ _ _ _))
+      (λ _. picked P (ltb (chunk s c .next .0) (z .chunks)) (λ _. on _ _) (λ _. ends)))
+    where
+      c : ChunkNo
+      c = locate z s (t .key)
+
+      e : EntryNo
+      e = firstPresent z s c (t .key) (t .argument)
+
+      pairs : Task → Type 0
+      pairs u = P (record { task = u; write = write.Nothing; report = report.Pair (entry z s c e .key) (value s (entry z s c e .handle)) })

@@ -15,7 +15,7 @@ ghost use Rattle.rules.specs.declared.Write.the-variants as write;
 ghost use Rattle.rules.specs.declared.Sizes.{Sizes};
 ghost use Rattle.rules.specs.Words.{inserts};
 ghost use Rattle.rules.specs.Tables.{Tables};
-ghost use Rattle.rules.specs.Stages.{goesTo, keeps, cursorAt, moves, restarts, finishes, finishesAbsent, givesBack, stays};
+ghost use Rattle.rules.specs.Stages.{goesTo, keeps, withEnds, moves, restarts, finishes, finishesAbsent, givesBack, stays};
 ghost use Rattle.rows.specs.Rows.{tables};
 
 // The operation goes on at a stage, holding what is named.
@@ -55,12 +55,13 @@ pub fn keeps(t: Task, stage: u64) -> Task
     next
 }
 
-// A scan goes on from another cursor.
-pub fn cursor_at(t: Task, key: u64) -> Task
-    ensures { λ r. ⌜ r ≡ cursorAt t key ⌝ }
+// A scan has these ends left.
+pub fn with_ends(t: Task, cursor: u64, upper: u64) -> Task
+    ensures { λ r. ⌜ r ≡ withEnds t cursor upper ⌝ }
 {
     let mut next = t;
-    next.key = key;
+    next.key = cursor;
+    next.argument = upper;
     next
 }
 
@@ -96,12 +97,12 @@ pub fn moves_keeping(t: Task, stage: u64, w: Write) -> Decision
     }
 }
 
-// A scan moves on, from another cursor.
-pub fn moves_cursor(t: Task, key: u64, answer: Report) -> Decision
-    ensures { λ r. ⌜ r ≡ record { task = cursorAt t key; write = write.Nothing; report = answer } ⌝ }
+// A scan moves on, with these ends left.
+pub fn moves_ends(t: Task, cursor: u64, upper: u64, answer: Report) -> Decision
+    ensures { λ r. ⌜ r ≡ record { task = withEnds t cursor upper; write = write.Nothing; report = answer } ⌝ }
 {
     Decision {
-        task: cursor_at(t, key),
+        task: with_ends(t, cursor, upper),
         write: Write::Nothing,
         report: answer,
     }

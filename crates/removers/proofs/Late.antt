@@ -12,10 +12,9 @@ use Rattle.rules.specs.declared.Decision.{Decision}
 use Rattle.rules.specs.declared.Write.{Write}
 use Rattle.rules.specs.declared.Write.the-variants as write
 use Rattle.rules.specs.Words.{pick, _and_}
-use Rattle.rules.specs.Tables.{Tables, chunk, entry}
-use Rattle.rules.specs.Walks.{locate, firstPresent}
+use Rattle.rules.specs.Tables.{Tables, entry}
 use Rattle.rules.specs.Stages
-use Rattle.laws.proofs.EachStage.{each-stage}
+use Rattle.laws.proofs.EachStage.{each-stage, scan-cases}
 use Rattle.laws.proofs.Tests.{picked, pick-of, pick-same, and-left, and-right}
 
 -- a deleting write leaves its task at 16, holding the handle
@@ -83,7 +82,7 @@ module _ (z : Sizes) (s : Tables) (t : Task) where
         findsAgain = λ e. picked Late (Stages.hasKey z s t) (λ _. there 17 e (omega arith) (omega arith) refl) (λ _. low _ refl);
         readsAgain = λ e. picked Late (eqb (entry z s (t .chunk) (t .entry) .handle .0) (t .old .0)) (λ _. there 18 e (omega arith) (omega arith) refl) (λ _. low _ refl);
         endsRemove = λ _. low _ refl;
-        scans = λ e. picked Late (leb (t .argument) (t .key)) (λ _. low _ refl) (λ _. picked Late (ltb (firstPresent z s (locate z s (t .key)) (t .key) (t .argument) .0) (z .entries)) (λ _. stayed (rw e (omega arith)) refl refl) (λ _. picked Late (ltb (chunk s (locate z s (t .key)) .next .0) (z .chunks)) (λ _. stayed (rw e (omega arith)) refl refl) (λ _. low _ refl)));
+        scans = λ e. scan-cases z s n t Late (low _ refl) (λ _ _. stayed (rw e (omega arith)) refl refl) (λ _ _ _ _. stayed (rw e (omega arith)) refl refl);
         scansDown = λ e. picked Late (ltb (Stages.topOf z s t n .0) (z .entries)) (λ _. stayed (rw e (omega arith)) refl refl) (λ _. picked Late (Stages.isLowest z s t) (λ _. low _ refl) (λ _. stayed (rw e (omega arith)) (sym e) refl));
         stays = λ none. stayed (eqb-false _ _ (none 21 refl)) refl refl;
       })

@@ -1,10 +1,11 @@
--- M1 to M12, the cases beside them, those of former values, those of scans down and that of the index hold of the rules, at document 01's sizes: by computing, the longest three in stages.
+-- M1 to M12, the cases beside them, those of former values, of scans down, of the index and of a scan's upper end hold of the rules, at document 01's sizes: by computing, the longest three in stages.
 use mathlib.Core.Path.{_≡_, refl, _∙_, sym}
 use mathlib.Core.List.{List, _++_, map}
 use borrow.Table.Elements.{map-app}
 use Rattle.rules.specs.Words.{limits}
 use Rattle.rules.specs.Calls.{fresh, does}
-use Rattle.rules.specs.Cases.{Line, says, runs, moves, putsOn, falls, emptyDown, retiredDown, inOne, inTwo, inThree, scansAll, scansRange, wholeDown, rangeDown, locatesBetween, between, baseCases, fillCases, downCases, formerCases, indexCases, markedCases}
+use Rattle.rules.specs.Lines.{Line, says, runs, moves, putsOn, falls, climbs}
+use Rattle.rules.specs.Cases.{emptyDown, retiredDown, inOne, inTwo, inThree, scansAll, wholeDown, locatesBetween, between, topKey, scansToMinimum, toMinimum, baseCases, fillCases, downCases, formerCases, indexCases, endCases, markedCases}
 use Rattle.rules.proofs.Broken.{everyRule, judged}
 use Rattle.rules.proofs.Staged.{Holds, Stage, leftBy, then-holds, rowsFrom, one, two, three}
 
@@ -24,9 +25,13 @@ formers : AllHold formerCases
 unfolding everyRule runs moves
 formers = let judge = judged in let before = base in refl
 
+topHolds : Holds (fresh limits) topKey
+unfolding everyRule runs moves
+topHolds = let judge = judged in let before = formers in refl
+
 emptyHolds : Holds (fresh limits) emptyDown
 unfolding everyRule runs moves
-emptyHolds = let judge = judged in let before = formers in refl
+emptyHolds = let judge = judged in let before = topHolds in refl
 
 retiredHolds : Holds (fresh limits) retiredDown
 unfolding everyRule runs moves putsOn
@@ -36,7 +41,7 @@ fills : AllHold fillCases
 unfolding everyRule runs moves putsOn
 fills = let judge = judged in let before = retiredHolds in refl
 
--- the longest three, of the index and of scans down, in stages
+-- the longest three, of scans and of the index, in stages
 inOneStage : Stage (fresh limits) inOne one
 unfolding everyRule runs leftBy rowsFrom moves putsOn
 inOneStage = let judge = judged in let before = fills in (refl, refl)
@@ -45,20 +50,20 @@ inTwoStage : Stage one inTwo two
 unfolding everyRule runs leftBy rowsFrom moves putsOn
 inTwoStage = let judge = judged in let before = inOneStage in (refl, refl)
 
-rangeHolds : Holds two scansRange
-unfolding everyRule runs rowsFrom moves falls
-rangeHolds = let judge = judged in let before = inTwoStage in refl
+toMinimumHolds : Holds two scansToMinimum
+unfolding everyRule runs rowsFrom falls climbs
+toMinimumHolds = let judge = judged in let before = inTwoStage in refl
 
 betweenHolds : Holds two locatesBetween
 unfolding everyRule runs rowsFrom moves
-betweenHolds = let judge = judged in let before = rangeHolds in refl
+betweenHolds = let judge = judged in let before = toMinimumHolds in refl
 
 inThreeStage : Stage two inThree three
 unfolding everyRule runs leftBy rowsFrom moves putsOn
 inThreeStage = let judge = judged in let before = betweenHolds in (refl, refl)
 
 allHolds : Holds three scansAll
-unfolding everyRule runs rowsFrom moves falls
+unfolding everyRule runs rowsFrom falls
 allHolds = let judge = judged in let before = inThreeStage in refl
 
 -- ---- the cases, of their stages
@@ -69,22 +74,26 @@ after-two l h = then-holds (fresh limits) one inOne (inTwo ++ l) inOneStage (the
 whole : Holds (fresh limits) wholeDown
 whole = after-two (inThree ++ scansAll) (then-holds two three inThree scansAll inThreeStage allHolds)
 
-range : Holds (fresh limits) rangeDown
-range = after-two scansRange rangeHolds
-
 between-two : Holds (fresh limits) between
 between-two = after-two locatesBetween betweenHolds
 
 down : AllHold downCases
-down = rw (emptyHolds, retiredHolds, whole, range)
+down = rw (emptyHolds, retiredHolds, whole)
 
 index : AllHold indexCases
 index = rw between-two
 
+to-minimum : Holds (fresh limits) toMinimum
+to-minimum = after-two scansToMinimum toMinimumHolds
+
+atEnds : AllHold endCases
+atEnds = rw (topHolds, to-minimum)
+
 -- what the rules say of each case, line by line, is what the case says
 pub marked : map (runs does (fresh limits)) markedCases ≡ map (map says) markedCases
 marked =
-    both-hold baseCases (fillCases ++ downCases ++ formerCases ++ indexCases) base
-    (both-hold fillCases (downCases ++ formerCases ++ indexCases) fills
-    (both-hold downCases (formerCases ++ indexCases) down
-    (both-hold formerCases indexCases formers index)))
+    both-hold baseCases (fillCases ++ downCases ++ formerCases ++ indexCases ++ endCases) base
+    (both-hold fillCases (downCases ++ formerCases ++ indexCases ++ endCases) fills
+    (both-hold downCases (formerCases ++ indexCases ++ endCases) down
+    (both-hold formerCases (indexCases ++ endCases) formers
+    (both-hold indexCases endCases index atEnds))))

@@ -16,8 +16,8 @@ use Rattle.rules.specs.Tables.{Tables, idleTask, emptyChunk, emptyEntry,
 use Rattle.rules.specs.Rebalance.{Outcome}
 use Rattle.rules.specs.Calls.{Call, does}
 use Rattle.rules.specs.Unbroken.{indexRow}
-use Rattle.rules.specs.Cases.{Line, says, runs}
-use Rattle.rules.specs.Cases.Line.{reports, shows}
+use Rattle.rules.specs.Lines.{Line, says, runs}
+use Rattle.rules.specs.Lines.Line.{reports, shows}
 
 -- ---- one stage after another
 -- what the rules say of the lines, from the tables on, is what the lines say

@@ -1,98 +1,13 @@
--- The marked cases M1 to M12, three more, four of scans down (document 02, E1), three of former values (E2) and one of the index (E3): each is its calls from fresh tables, every report of them, and what the tables then show (document 01, "Marked cases").
-use Prim.Native.Nat.{ℕ, zero, suc, _+_, _-_, _^_}
+-- The marked cases M1 to M12, three more, three of scans down (document 02, E1), three of former values (E2), one of the index (E3) and two of a scan's upper end (E5): each is its calls from fresh tables, every report of them, and what the tables then show (document 01, "Marked cases").
+use Prim.Native.Nat.{ℕ, _+_, _-_, _^_}
 use mathlib.Core.List.{List, [], _∷_, _++_}
-use lib.ListN.{length, getD}
-use Rattle.rules.specs.declared.Sizes.{Sizes}
 use Rattle.rules.specs.declared.Report.{Report}
 use Rattle.rules.specs.declared.Report.the-variants as report
-use Rattle.rules.specs.Words.{pick, limits, chunkNo, get, put, putIfAbsent, upsert, compute, remove, scan, scanDown}
-use Rattle.rules.specs.Tables.{Tables, emptyRow, task, chunk, entry}
-use Rattle.rules.specs.Walks.{linked}
-use Rattle.rules.specs.Rebalance.{Outcome, namingFrom}
-use Rattle.rules.specs.Shape.{liveCount, shape}
-use Rattle.rules.specs.Calls.{Call}
+use Rattle.rules.specs.Words.{largest, get, put, putIfAbsent, upsert, compute, remove, scan, scanDown}
+use Rattle.rules.specs.Tables.{task}
 use Rattle.rules.specs.Calls.Call.{start, step, begin, rebalance}
-
--- a call with its report, or a number that the tables then show
-pub data Line : Type 0 where
-  reports : Call → Report → Line
-  shows : (Tables → ℕ) → ℕ → Line
-
-pub data Said : Type 0 where
-  heard : Report → Said
-  seen : ℕ → Said
-
--- what a case says, line by line
-abbrev pub says : Line → Said
-says (reports c r) = heard r
-says (shows v n) = seen n
-
--- what calls that are done in some way say, from the tables on
-module _ (done : Sizes → Tables → Call → Outcome) where
-  unfoldable pub runs : Tables → List Line → List Said
-  runs s [] = []
-  runs s (reports c r ∷ l) = let o = done limits s c in heard (o .report) ∷ runs (o .tables) l
-  runs s (shows v n ∷ l) = seen (v s) ∷ runs s l
-
--- the tables have the shape
-abbrev pub shaped : Line
-shaped = shows (λ s. pick (shape limits s) 1 0) 1
-
--- ---- lines
--- so many steps of the task that each move on
-unfoldable pub moves : ℕ → ℕ → List Line
-moves n zero = []
-moves n (suc many) = reports (step n) report.Moved ∷ moves n many
-
--- an operation of the task whose step of that number is its first not to move on, and reports that: its answer, or why it restarts
-abbrev pub ends : ℕ → ℕ → ℕ → ℕ → ℕ → ℕ → Report → List Line
-ends n op k a f steps answer = reports (start n op k a f) report.Moved ∷ moves n (steps - 1) ++ reports (step n) answer ∷ []
-
--- and the tables then have the shape
-abbrev pub finishes : ℕ → ℕ → ℕ → ℕ → ℕ → ℕ → Report → List Line
-finishes n op k a f steps answer = ends n op k a f steps answer ++ shaped ∷ []
-
--- an insertion alone, nine steps, and the handle that it takes at the fifth
-abbrev pub takes : ℕ → ℕ → ℕ → ℕ → ℕ → Report → List Line
-takes n op k a h answer =
-    reports (start n op k a 0) report.Moved ∷ moves n 5 ++ shows (λ s. task s n .new .0) h ∷ moves n 3 ++ reports (step n) answer ∷ shaped ∷ []
-
--- puts of the so many keys after k, each into a slot of its own
-unfoldable pub putsOn : ℕ → ℕ → List Line
-putsOn k zero = []
-putsOn k (suc n) = putsOn k n ++ ends 0 put (k + suc n) 7 0 9 report.Absent
-
--- puts of the keys 1 to n
-abbrev pub puts : ℕ → List Line
-puts n = putsOn 0 n ++ shaped ∷ []
-
--- a rebalance of the chunk that has the key, through swap in
-abbrev pub swaps : ℕ → List Line
-swaps k = reports (begin k) report.Moved ∷ reports rebalance report.Moved ∷ reports rebalance report.Moved ∷ reports rebalance report.Moved ∷ shaped ∷ []
-
-abbrev pub swapped : List Line
-swapped = swaps 1
-
--- ---- what is shown of a chunk
-abbrev pub used : ℕ → Tables → ℕ
-used c s = chunk s (chunkNo c) .used
-
--- how many entries are linked
-abbrev pub links : ℕ → Tables → ℕ
-links c s = length (linked limits s (chunkNo c))
-
--- how many of them name a handle
-abbrev pub naming : ℕ → Tables → ℕ
-naming c s = length (namingFrom limits (s .entries) (chunkNo c) 32 (chunk s (chunkNo c) .head))
-
-abbrev pub minKey : ℕ → Tables → ℕ
-minKey c s = chunk s (chunkNo c) .min
-
-abbrev pub firstKey : ℕ → Tables → ℕ
-firstKey c s = entry limits s (chunkNo c) (chunk s (chunkNo c) .head) .key
-
-abbrev pub lives : Tables → ℕ
-lives s = liveCount (s .chunks)
+use Rattle.rules.specs.Lines.{Line, shaped, moves, finishes, takes, puts, swaps, swapped, splits, stepping, scans, falls, climbs, used, links, naming, minKey, firstKey, lives, cursor, upperEnd, rowChunk, rowKey, indexedRows}
+use Rattle.rules.specs.Lines.Line.{reports, shows}
 
 -- ---- the cases
 abbrev pub m1 : List Line
@@ -184,10 +99,8 @@ m11 = puts 32 ++ shows (used 0) 32 ∷ finishes 1 put 99 1 0 3 report.Full
 abbrev pub m12 : List Line
 m12 =
     m2
-    ++ reports (start 0 scan 0 10 0) report.Moved
-    ∷ reports (step 0) (report.Pair 5 50)
-    ∷ reports (step 0) report.Done
-    ∷ finishes 0 scan 5 5 0 1 report.Done
+    ++ scans scan 0 10 (report.Pair 5 50 ∷ [])
+    ++ scans scan 5 5 (report.Pair 5 50 ∷ [])
     ++ reports (start 0 scan 6 5 0) (report.Refused 4)
     ∷ []
 
@@ -232,19 +145,6 @@ upserts =
     ++ finishes 0 get 5 0 0 4 (report.Value 13)
 
 -- ---- scans down (document 02, E1)
--- pairs of the keys above k, falling, so many, each with the value 7
-unfoldable pub falls : ℕ → ℕ → List Line
-falls k zero = []
-falls k (suc many) = reports (step 0) (report.Pair (k + suc many) 7) ∷ falls k many
-
--- a whole rebalance of the chunk that has the key
-abbrev pub rebalances : ℕ → List Line
-rebalances k = swaps k ++ reports rebalance report.Moved ∷ reports rebalance report.Finished ∷ shaped ∷ []
-
--- puts of the so many keys after k, all into one chunk, which a rebalance then makes two
-abbrev pub splits : ℕ → ℕ → List Line
-splits k n = putsOn k n ++ shaped ∷ rebalances (k + n)
-
 -- the keys 1 to 9 in one chunk
 abbrev pub inOne : List Line
 inOne = puts 9
@@ -262,34 +162,22 @@ abbrev pub scansAll : List Line
 scansAll =
     shows lives 3
     ∷ reports (start 0 scanDown 0 100 0) report.Moved
-    ∷ moves 0 1
-    ++ falls 18 8
-    ++ moves 0 1
-    ++ falls 9 9
-    ++ moves 0 1
+    ∷ stepping (report.Moved ∷ falls 18 8 ++ report.Moved ∷ falls 9 9 ++ report.Moved ∷ [])
     ++ shaped
-    ∷ falls 0 9
-    ++ reports (step 0) report.Done
-    ∷ shaped
+    ∷ stepping (falls 0 9 ++ report.Done ∷ [])
+    ++ shaped
     ∷ []
 
 abbrev pub wholeDown : List Line
 wholeDown = inOne ++ (inTwo ++ (inThree ++ scansAll))
 
--- 5 to 10 of the keys in two chunks: the upper end is left out, and the chunk that starts with it gives nothing
-abbrev pub scansRange : List Line
-scansRange = reports (start 0 scanDown 5 10 0) report.Moved ∷ moves 0 2 ++ falls 4 5 ++ reports (step 0) report.Done ∷ shaped ∷ []
-
-abbrev pub rangeDown : List Line
-rangeDown = inOne ++ (inTwo ++ scansRange)
-
--- an empty range takes two steps, also where its ends are a chunk's minimum key; 6 to 5 is refused by 4, and operation 9 by 5
+-- a range without a present key takes two steps in one chunk, also where its ends are the chunk's minimum key; 6 to 5 is refused by 4, and operation 9 by 5
 abbrev pub emptyDown : List Line
 emptyDown =
     m2
-    ++ finishes 0 scanDown 5 5 0 2 report.Done
-    ++ finishes 0 scanDown 0 0 0 2 report.Done
-    ++ finishes 0 scanDown 6 10 0 2 report.Done
+    ++ scans scanDown 4 4 (report.Moved ∷ [])
+    ++ scans scanDown 0 0 (report.Moved ∷ [])
+    ++ scans scanDown 6 10 (report.Moved ∷ [])
     ++ reports (start 0 scanDown 6 5 0) (report.Refused 4)
     ∷ reports (start 0 9 5 6 0) (report.Refused 5)
     ∷ []
@@ -339,16 +227,6 @@ swappedOut sooner later =
     ∷ finishes 0 get 5 0 0 4 (report.Value 70)
 
 -- ---- the index (document 02, E3)
--- the chunk and the minimum key of its row of that number
-abbrev pub rowChunk : ℕ → Tables → ℕ
-rowChunk n s = getD (s .index) n emptyRow .chunk .0
-
-abbrev pub rowKey : ℕ → Tables → ℕ
-rowKey n s = getD (s .index) n emptyRow .min
-
-abbrev pub indexedRows : Tables → ℕ
-indexedRows s = s .directory .indexed
-
 -- the keys 1 to 17 are in chunks 1 and 2, from 0 and 10 on, and chunk 0 takes the place of 2: until the index step the last row at or under 12 names chunk 2, which is retired, and a get of 12 locates chunk 0
 abbrev pub locatesBetween : List Line
 locatesBetween =
@@ -372,6 +250,39 @@ locatesBetween =
 abbrev pub between : List Line
 between = inOne ++ (inTwo ++ locatesBetween)
 
+-- ---- a scan's upper end (document 02, E5)
+abbrev pub topPair : Report
+topPair = report.Pair largest 70
+
+-- the key 2^64-1 alone: a scan of it by itself and one of all keys give it once, up and down, and one up to the key below it does not; past it an upward scan's cursor stays and its upper end lies below
+abbrev pub topKey : List Line
+topKey =
+    finishes 0 put largest 70 0 9 report.Absent
+    ++ reports (start 0 scan largest largest 0) report.Moved
+    ∷ reports (step 0) topPair
+    ∷ shows cursor largest
+    ∷ shows upperEnd (largest - 1)
+    ∷ shaped
+    ∷ reports (step 0) report.Done
+    ∷ scans scan 0 largest (topPair ∷ [])
+    ++ scans scanDown largest largest (report.Moved ∷ topPair ∷ [])
+    ++ scans scanDown 0 largest (report.Moved ∷ topPair ∷ [])
+    ++ scans scan 0 (largest - 1) []
+    ++ scans scanDown 0 (largest - 1) (report.Moved ∷ [])
+
+-- of the keys 1 to 17 in chunks from 0 and 10 on a range that ends at 10, up and down; 10 alone; and 0 alone, which is absent: upward it takes a step to the next chunk, past its end
+abbrev pub scansToMinimum : List Line
+scansToMinimum =
+    scans scan 5 10 (climbs 4 6)
+    ++ scans scanDown 5 10 (report.Moved ∷ falls 9 1 ++ report.Moved ∷ falls 4 5)
+    ++ scans scan 10 10 (climbs 9 1)
+    ++ scans scanDown 10 10 (report.Moved ∷ falls 9 1)
+    ++ scans scan 0 0 (report.Moved ∷ [])
+    ++ scans scanDown 0 0 (report.Moved ∷ [])
+
+abbrev pub toMinimum : List Line
+toMinimum = inOne ++ (inTwo ++ scansToMinimum)
+
 -- ---- all of them
 abbrev pub baseCases : List (List Line)
 baseCases = m1 ∷ m2 ∷ m3 ∷ m4 ∷ m5 ∷ m6 ∷ m7 ∷ m8 ∷ m9 ∷ m12 ∷ lost ∷ functions ∷ upserts ∷ []
@@ -381,7 +292,7 @@ abbrev pub fillCases : List (List Line)
 fillCases = m10 ∷ m10two ∷ m11 ∷ []
 
 abbrev pub downCases : List (List Line)
-downCases = emptyDown ∷ retiredDown ∷ wholeDown ∷ rangeDown ∷ []
+downCases = emptyDown ∷ retiredDown ∷ wholeDown ∷ []
 
 -- a remove's entry is swapped out before it looks again, and after it has published, so that its own swap finds another handle
 abbrev pub formerCases : List (List Line)
@@ -390,5 +301,8 @@ formerCases = upsertBetween ∷ swappedOut 0 2 ∷ swappedOut 4 1 ∷ []
 abbrev pub indexCases : List (List Line)
 indexCases = between ∷ []
 
+abbrev pub endCases : List (List Line)
+endCases = topKey ∷ toMinimum ∷ []
+
 abbrev pub markedCases : List (List Line)
-markedCases = baseCases ++ fillCases ++ downCases ++ formerCases ++ indexCases
+markedCases = baseCases ++ fillCases ++ downCases ++ formerCases ++ indexCases ++ endCases

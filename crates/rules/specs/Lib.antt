@@ -9,6 +9,7 @@ pub mod Shape
 pub mod Calls
 pub mod Occasions
 pub mod Map
+pub mod Lines
 pub mod Cases
 pub mod Unbroken
 pub mod Changed

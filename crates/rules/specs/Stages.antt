@@ -17,7 +17,7 @@ use Rattle.rules.specs.declared.Write.the-variants as write
 use Rattle.rules.specs.declared.Report.{Report}
 use Rattle.rules.specs.declared.Report.the-variants as report
 use Rattle.rules.specs.declared.Decision.{Decision}
-use Rattle.rules.specs.Words.{pick, _and_, _or_, noChunk, noEntry, noHandle, entryNo, get, put, putIfAbsent, upsert, compute, remove, inserts}
+use Rattle.rules.specs.Words.{pick, _and_, _or_, largest, noChunk, noEntry, noHandle, entryNo, get, put, putIfAbsent, upsert, compute, remove, inserts}
 use Rattle.rules.specs.Tables.{Tables, idleTask, chunk, putChunk, entry, putEntry, value, putValue, mark, putMark, withOwn, task, stack}
 use Rattle.rules.specs.Walks.{locate, find, place, firstPresent, lowestFree, within, top, off, over, undeleted}
 
@@ -30,9 +30,17 @@ goesTo t n c e o h p w = record { stage = n; operation = t .operation; function 
 abbrev pub keeps : Task → ℕ → Task
 keeps t n = goesTo t n (t .chunk) (t .entry) (t .old) (t .new) (t .published) (t .swapped)
 
--- a scan goes on from another cursor
+-- a scan has these ends left: its cursor, and its upper end
+abbrev pub withEnds : Task → ℕ → ℕ → Task
+withEnds t k a = record { stage = t .stage; operation = t .operation; function = t .function; key = k; argument = a; chunk = t .chunk; entry = t .entry; old = t .old; new = t .new; published = t .published; swapped = t .swapped }
+
+-- it goes on from another cursor
 abbrev pub cursorAt : Task → ℕ → Task
-cursorAt t k = record { stage = t .stage; operation = t .operation; function = t .function; key = k; argument = t .argument; chunk = t .chunk; entry = t .entry; old = t .old; new = t .new; published = t .published; swapped = t .swapped }
+cursorAt t k = withEnds t k (t .argument)
+
+-- it has given the pair at a key and goes on from the next one; "a pair at the largest key ends the scan at the next step, and nothing wraps" (document 02, E5): the cursor stays there, and the upper end goes below it
+abbrev pub goesPast : Task → ℕ → Task
+goesPast t k = pick (ltb k largest) (cursorAt t (k + 1)) (withEnds t k (k - 1))
 
 -- ---- a stage's outcome
 abbrev pub moves : Task → Write → Decision
@@ -197,10 +205,10 @@ module _ (z : Sizes) (s : Tables) (t : Task) where
       let c = locate z s (t .key) in
       let e = firstPresent z s c (t .key) (t .argument) in
       let x = entry z s c e in
-      let pair : Decision = record { task = cursorAt t (x .key + 1); write = write.Nothing; report = report.Pair (x .key) (value s (x .handle)) } in
+      let pair : Decision = record { task = goesPast t (x .key); write = write.Nothing; report = report.Pair (x .key) (value s (x .handle)) } in
       let on = pick (ltb (chunk s c .next .0) (z .chunks)) (moves (cursorAt t (chunk s (chunk s c .next) .min)) write.Nothing) (finishes write.Nothing report.Done) in
       let walked = pick (ltb (e .0) (z .entries)) pair on in
-      pick (leb (t .argument) (t .key)) (finishes write.Nothing report.Done) walked
+      pick (ltb (t .argument) (t .key)) (finishes write.Nothing report.Done) walked
 
   -- 23 scan down (document 02, E1), of task number n: the entry on top of its stack
   abbrev pub topOf : ℕ → EntryNo
@@ -221,13 +229,13 @@ module _ (z : Sizes) (s : Tables) (t : Task) where
   abbrev pub nextDown : ChunkNo
   nextDown = locate z s sought
 
-  -- the keys to fill with lie below this: "in range", and later "only keys under that minimum"
-  abbrev pub under : ℕ
-  under = pick (hasFilled and ltb (chunk s (t .chunk) .min) (t .argument)) (chunk s (t .chunk) .min) (t .argument)
+  -- the largest key to fill with: "in range", and later "only keys under that minimum"
+  abbrev pub upTo : ℕ
+  upTo = pick (ltb sought (t .argument)) sought (t .argument)
 
   -- "all linked entries in range", in the order of their keys
   abbrev pub fillsWith : List EntryNo
-  fillsWith = within z s nextDown (t .key) under
+  fillsWith = within z s nextDown (t .key) upTo
 
   -- "A step takes one entry off: a pair if that entry names an undeleted handle, else moved on"
   abbrev pub takesOff : EntryNo → Decision

@@ -68,13 +68,17 @@ module _ (z : Sizes) (es : List Entry) (c : ChunkNo) where
       let on = placeFrom fuel e (entryAt z es c e .next) k in
       pick (ltb (e .0) (z .entries) and ltb (entryAt z es c e .key) k) on before
 
--- the linked entries from e on with a key from..to (to left out), in order
+-- "Scan from..to: the lower end counts", and "the upper end is now included, upward and downward" (document 02, E5): the key lies in the range
+abbrev pub lies : ℕ → ℕ → ℕ → Bool
+lies from to k = leb from k and leb k to
+
+-- the linked entries from e on with a key from..to, in order
 module _ (z : Sizes) (es : List Entry) (c : ChunkNo) (from to : ℕ) where
   unfoldable pub withinFrom : ℕ → EntryNo → List EntryNo
   withinFrom zero e = []
   withinFrom (suc fuel) e =
       let on = withinFrom fuel (entryAt z es c e .next) in
-      let more = pick (leb from (entryAt z es c e .key) and ltb (entryAt z es c e .key) to) (e ∷ on) on in
+      let more = pick (lies from to (entryAt z es c e .key)) (e ∷ on) on in
       pick (ltb (e .0) (z .entries)) more []
 
 -- ---- a task's stack
@@ -102,14 +106,14 @@ over (e ∷ l) (x ∷ w) = e ∷ over l w
 abbrev pub undeleted : Sizes → List ℕ → HandleNo → Bool
 undeleted z ms h = ltb (h .0) (z .handles) and eqb (getD ms (h .0) 0) 0
 
--- the first linked entry from e on with a key from..to (to left out) that names an undeleted handle, or none
+-- the first linked entry from e on with a key from..to that names an undeleted handle, or none
 module _ (z : Sizes) (es : List Entry) (ms : List ℕ) (c : ChunkNo) (from to : ℕ) where
   unfoldable pub presentFrom : ℕ → EntryNo → EntryNo
   presentFrom zero e = noEntry
   presentFrom (suc fuel) e =
       let on = presentFrom fuel (entryAt z es c e .next) in
       pick (ltb (e .0) (z .entries))
-      (pick (leb from (entryAt z es c e .key) and ltb (entryAt z es c e .key) to and undeleted z ms (entryAt z es c e .handle)) e on)
+      (pick (lies from to (entryAt z es c e .key) and undeleted z ms (entryAt z es c e .handle)) e on)
       noEntry
 
 -- ---- which handle is free

@@ -46,6 +46,10 @@ noEntry = entryNo NONE
 abbrev pub noHandle : HandleNo
 noHandle = handleNo NONE
 
+-- ---- "Keys and values take every value 0 to 2^64-1"
+abbrev pub largest : ℕ
+largest = 18446744073709551615
+
 -- ---- "A chunk: unused, live, new or retired"
 abbrev pub unused : ℕ
 unused = 0

@@ -8,6 +8,9 @@ ghost use Rattle.rules.specs.Calls.{freshDirectory};
 // Stands for no chunk, no entry or no handle.
 pub const NONE: u64 = 18446744073709551615;
 
+// The largest key.
+pub const LARGEST: u64 = 18446744073709551615;
+
 // Numbers of chunks, of entries within a chunk, and of handles.
 pub struct ChunkNo(pub u64);
 

@@ -4,20 +4,17 @@ use mathlib.Core.Path.{_≡_, refl}
 use mathlib.Core.Bool.{Bool, true, false}
 use mathlib.Core.List.{List}
 use native.Mathlib.Nat.{le-antisymm}
-use native.Mathlib.Omega.{arith}
 use lib.Dec.{ltb, leb}
-use borrow.Author.Tests.{lt-ltb, le-ltb, ltb-true}
+use borrow.Author.Tests.{lt-ltb, le-ltb}
 use Rattle.rules.specs.declared.Sizes.{Sizes}
 use Rattle.rules.specs.declared.Chunk.{Chunk}
 use Rattle.rules.specs.declared.Entry.{Entry}
 use Rattle.rules.specs.declared.ChunkNo.{ChunkNo}
 use Rattle.rules.specs.declared.EntryNo.{EntryNo}
-use Rattle.rules.specs.Words.{pick, _and_, NONE, noEntry}
-use Rattle.rules.specs.Tables.{Tables, chunkAt, entryAt, chunk, entry}
-use Rattle.rules.specs.Walks.{locateFrom, presentFrom, undeleted, locate}
-use Rattle.rules.proofs.Tests.{and-left, and-right}
+use Rattle.rules.specs.Words.{_and_, noEntry}
+use Rattle.rules.specs.Tables.{chunkAt, entryAt}
+use Rattle.rules.specs.Walks.{locateFrom, lies, presentFrom, undeleted}
 use Rattle.walks.proofs.Laws.{fuelled}
-use Rattle.scanning.specs.Walked.{Walked}
 
 -- ---- along the live chunks
 module _ (z : Sizes) (cs : List Chunk) (c : ChunkNo) (x : Chunk) (q : x ≡ chunkAt cs c) (k left : ℕ) where
@@ -37,7 +34,7 @@ module _ (z : Sizes) (cs : List Chunk) (c : ChunkNo) (x : Chunk) (q : x ≡ chun
 module _ (z : Sizes) (es : List Entry) (ms : List ℕ) (c : ChunkNo) (from to : ℕ) where
   -- the entry's key lies in the range, and it names an undeleted handle
   abbrev pub inRange : Entry → Bool
-  inRange x = leb from (x .key) and ltb (x .key) to and undeleted z ms (x .handle)
+  inRange x = lies from to (x .key) and undeleted z ms (x .handle)
 
   pub present-spent : (e : EntryNo) (left : ℕ) → left ≤ 0 → presentFrom z es ms c from to left e ≡ noEntry
   unfolding presentFrom
@@ -55,19 +52,3 @@ module _ (z : Sizes) (es : List Entry) (ms : List ℕ) (c : ChunkNo) (from to : 
   pub present-next : (e : EntryNo) (left : ℕ) → 0 < left → e .0 < z .entries → (x : Entry) → x ≡ entryAt z es c e → inRange x ≡ false → presentFrom z es ms c from to left e ≡ presentFrom z es ms c from to (left - 1) (x .next)
   unfolding presentFrom
   present-next e left p h x q t = fuelled (λ n. presentFrom z es ms c from to n e) (λ n. presentFrom z es ms c from to n (x .next)) (λ n. rw (lt-ltb _ _ h, ← q, t)) left p
-
-  -- what is found lies below the upper end
-  pub present-below : (fits : z .entries ≤ NONE) (left : ℕ) (e : EntryNo) → presentFrom z es ms c from to left e .0 < z .entries → entryAt z es c (presentFrom z es ms c from to left e) .key < to
-  unfolding presentFrom
-  present-below fits zero e h = absurd (omega arith)
-  present-below fits (suc n) e h = go (ltb (e .0) (z .entries)) (inRange (entryAt z es c e)) refl (present-below fits n (entryAt z es c e .next)) h
-    where
-      go : (a b : Bool) → inRange (entryAt z es c e) ≡ b → (presentFrom z es ms c from to n (entryAt z es c e .next) .0 < z .entries → entryAt z es c (presentFrom z es ms c from to n (entryAt z es c e .next)) .key < to) → pick a (pick b e (presentFrom z es ms c from to n (entryAt z es c e .next))) noEntry .0 < z .entries → entryAt z es c (pick a (pick b e (presentFrom z es ms c from to n (entryAt z es c e .next))) noEntry) .key < to
-      go false b t on h = absurd (omega arith)
-      go true true t on h = ltb-true (entryAt z es c e .key) to (and-left (ltb (entryAt z es c e .key) to) (undeleted z ms (entryAt z es c e .handle)) (and-right (leb from (entryAt z es c e .key)) _ t))
-      go true false t on h = on h
-
--- the key that the scan's walk comes to lies below the upper end
-pub seen-below : (z : Sizes) (s : Tables) (from to : ℕ) (c : ChunkNo) (e : EntryNo) → Walked z s from to c e → e .0 < z .entries → z .entries ≤ NONE → entry z s c e .key < to
-seen-below z s from to c e w h fits =
-    rw (w .chunk, w .entry) (present-below z (s .entries) (s .marks) (locate z s from) from to fits (z .entries) (chunk s (locate z s from) .head) (rw (w .entry) at h))

@@ -1,12 +1,13 @@
 // Stage 22: the scan.
 use outcome::finishes;
-use outcome::moves_cursor;
+use outcome::moves_ends;
 use rules::Chunk;
 use rules::ChunkNo;
 use rules::Decision;
 use rules::Entry;
 use rules::EntryNo;
 use rules::HandleNo;
+use rules::LARGEST;
 use rules::NONE;
 use rules::Report;
 use rules::Sizes;
@@ -17,10 +18,11 @@ ghost use mathlib.Core.Bool.{Bool};
 ghost use mathlib.Core.List.{List};
 ghost use Prim.Native.Nat.{ℕ, _*_, _<_};
 ghost use lib.Dec.{ltb, leb};
+ghost use Rattle.rules.specs.declared.Write.the-variants as write;
 ghost use Rattle.rules.specs.Words.{_and_};
 ghost use Rattle.rules.specs.Tables.{chunkAt};
-ghost use Rattle.rules.specs.Walks.{undeleted, locate, firstPresent};
-ghost use Rattle.rules.specs.Stages.{scans};
+ghost use Rattle.rules.specs.Walks.{lies, undeleted, locate, firstPresent};
+ghost use Rattle.rules.specs.Stages.{goesPast, scans};
 ghost use Rattle.rows.specs.Rows.{tables, chunkRows};
 ghost use Rattle.locating.specs.Charted.{Charted};
 ghost use Rattle.outcome.specs.Lengths.{Chunks, Entries};
@@ -58,12 +60,12 @@ pub fn is_undeleted(z: Sizes, marks: &[u64], h: HandleNo) -> bool
 
 // The entry's key lies in the range, and it names an undeleted handle.
 pub fn gives(z: Sizes, marks: &[u64], x: Entry, from: u64, to: u64) -> bool
-    ensures { λ r. ⌜ r ≡ (leb from (x .key) and ltb (x .key) to and undeleted z (now (marks .entry)) (x .handle)) ⌝ }
+    ensures { λ r. ⌜ r ≡ (lies from to (x .key) and undeleted z (now (marks .entry)) (x .handle)) ⌝ }
 {
     if x.key < from {
         return false;
     }
-    if to <= x.key {
+    if to < x.key {
         return false;
     }
     is_undeleted(z, marks, x.handle)
@@ -123,6 +125,17 @@ pub fn walk(
     }
 }
 
+// The scan has given the pair at the key: it goes on from the next one, and past the largest none is left.
+pub fn goes_past(t: Task, k: u64, pair: Report) -> Decision
+    ensures { λ r. ⌜ r ≡ record { task = goesPast t k; write = write.Nothing; report = pair } ⌝ }
+{
+    if k < LARGEST {
+        moves_ends(t, k + 1, t.argument, pair)
+    } else {
+        moves_ends(t, k, k - 1, pair)
+    }
+}
+
 // 22 scan
 pub fn scan(
     z: Sizes,
@@ -136,7 +149,7 @@ pub fn scan(
     requires { ⌜ Charted z (now directory) (now chunks) × Entries z (now entries) ⌝ }
     ensures { λ r. ⌜ ((ts : List ℕ) → r ≡ scans z (tables z (now (directory .entry)) ts (now (chunks .entry)) (now (entries .entry)) (now (values .entry)) (now (marks .entry))) t) ⌝ }
 {
-    if t.argument <= t.key {
+    if t.argument < t.key {
         return finishes(Write::Nothing, Report::Done);
     }
     let seen = walk(z, directory, chunks, entries, marks, t.key, t.argument);
@@ -146,14 +159,14 @@ pub fn scan(
     if i < z.entries {
         let x = rows::entry_at(z, entries, c, e);
         let v = rows::word_at(values, x.handle);
-        return moves_cursor(t, x.key + 1, Report::Pair(x.key, v));
+        return goes_past(t, x.key, Report::Pair(x.key, v));
     }
     let y = rows::chunk_at(z, chunks, c);
     let next = y.next;
     let j = next.0 as usize;
     if j < z.chunks {
         let n = rows::chunk_at(z, chunks, next);
-        return moves_cursor(t, n.min, Report::Moved);
+        return moves_ends(t, n.min, t.argument, Report::Moved);
     }
     finishes(Write::Nothing, Report::Done)
 }

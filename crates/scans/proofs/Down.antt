@@ -3,11 +3,11 @@ use Prim.Native.Nat.{ℕ, suc, _≤_, _<_}
 use mathlib.Core.Path.{_≡_, refl, sym, ap, _∙_}
 use mathlib.Core.Bool.{true}
 use mathlib.Core.List.{[], List·Memᴰ}
-use native.Mathlib.Nat.{le-trans}
+use native.Mathlib.Nat.{le-refl, le-of-lt, le-trans}
 use native.Mathlib.Omega.{arith}
 use lib.Dec.{ltb}
 use lib.ListN.{length, getD}
-use borrow.Author.Tests.{lt-ltb, eq-eqb, le-ltb, eqb-true, ltb-true, leb-true}
+use borrow.Author.Tests.{lt-ltb, eq-eqb, le-ltb, eqb-true, ltb-true, ltb-false, leb-true}
 use Rattle.rules.specs.declared.Sizes.{Sizes}
 use Rattle.rules.specs.declared.Task.{Task}
 use Rattle.rules.specs.declared.ChunkNo.{ChunkNo}
@@ -105,21 +105,31 @@ module _ (z : Sizes) (lim : Limited z) (s : Tables) (r : Reached z s) (n : ℕ) 
   pub next-in : c .0 < z .chunks
   next-in = found z lim s kept n b .0
 
+  -- the keys to fill with reach up to the upper end, and up to the key sought, and to no key less
+  pub up-to-end : Stages.upTo z s t ≤ t .argument
+  up-to-end = by-test (ltb (Stages.sought z s t) (t .argument)) (λ q. rw q (le-of-lt (ltb-true _ _ q))) (λ q. rw q (le-refl _))
+
+  pub up-to-sought : Stages.upTo z s t ≤ Stages.sought z s t
+  up-to-sought = by-test (ltb (Stages.sought z s t) (t .argument)) (λ q. rw q (le-refl _)) (λ q. rw q (ltb-false _ _ q))
+
+  pub in-up-to : (q : ℕ) → q ≤ t .argument → q ≤ Stages.sought z s t → q ≤ Stages.upTo z s t
+  in-up-to q end sought = by-test (ltb (Stages.sought z s t) (t .argument)) (λ e. rw e sought) (λ e. rw e end)
+
   -- its minimum key is at most the key sought
   pub next-low : chunk s c .min ≤ Stages.sought z s t
   next-low = found z lim s kept n b .1 .1 .from
 
   -- an entry taken from there lies in range, from its minimum key on
-  pub taken-in : (e : EntryNo) → List·Memᴰ e (Stages.fillsWith z s t) → (t .key ≤ entry z s c e .key) × (entry z s c e .key < Stages.under z s t) × (chunk s c .min ≤ entry z s c e .key)
+  pub taken-in : (e : EntryNo) → List·Memᴰ e (Stages.fillsWith z s t) → (t .key ≤ entry z s c e .key) × (entry z s c e .key ≤ Stages.upTo z s t) × (chunk s c .min ≤ entry z s c e .key)
   taken-in e m = (w .ranged e m .0, w .ranged e m .1, kept .tables .key-in-range c next-in (found z lim s kept n b .1 .0) e (w .listed e m) .from)
     where
-      w : Within z (s .entries) c (t .key) (Stages.under z s t) 0 (linked z s c) (Stages.fillsWith z s t)
+      w : Within z (s .entries) c (t .key) (Stages.upTo z s t) 0 (linked z s c) (Stages.fillsWith z s t)
       w = takes z lim s kept n b
 
   -- a present key in range up to the key sought lies under its minimum key, or is taken and shown
-  pub taken-all : (q v : ℕ) → Present z s q v → t .key ≤ q → q < Stages.under z s t → q ≤ Stages.sought z s t → chunk s c .min ≤ q →
+  pub taken-all : (q v : ℕ) → Present z s q v → t .key ≤ q → q ≤ t .argument → q ≤ Stages.sought z s t → chunk s c .min ≤ q →
       (e : EntryNo) × List·Memᴰ e (Stages.fillsWith z s t) × (entry z s c e .key ≡ q) × ShownBy z s c q
-  taken-all q v p low up le from = (p .entry, takes z lim s kept n b .all (p .entry) there (rw keyed low) (rw keyed up), keyed, live-shown z lim s r c q v here range (present-to z lim s kept (reached-unlinked z lim r) p))
+  taken-all q v p low up le from = (p .entry, takes z lim s kept n b .all (p .entry) there (rw keyed low) (rw keyed (in-up-to q up le)), keyed, live-shown z lim s r c q v here range (present-to z lim s kept (reached-unlinked z lim r) p))
     where
       here : Live z s c
       here = record { numbered = next-in; isLive = found z lim s kept n b .1 .0 }

@@ -11,7 +11,7 @@ use Rattle.rules.specs.declared.Sizes.{Sizes}
 use Rattle.rules.specs.declared.EntryNo.{EntryNo}
 use Rattle.rules.specs.declared.Decision.{Decision}
 use Rattle.rules.specs.declared.Report.the-variants as report
-use Rattle.rules.specs.Words.{NONE, scan, scanDown}
+use Rattle.rules.specs.Words.{NONE, largest, scan, scanDown}
 use Rattle.rules.specs.Told.{isAnswer}
 use Rattle.rules.specs.Tables.{stack, chunk, entry}
 use Rattle.rules.specs.Walks.{undeleted}
@@ -47,7 +47,7 @@ module _ (z : Sizes) (lim : Limited z) (run : ℕ → Call) (n k a f j : ℕ) wh
         top-on : List·Memᴰ (y .top) (on z lim run n i₁)
         top-on = gave-on z lim run n k a f j i₁ h₁ y
 
-    is-ranged : (q v : ℕ) → GivesAt z run n i₁ q v → (k ≤ q) × (q < a)
+    is-ranged : (q v : ℕ) → GivesAt z run n i₁ q v → (k ≤ q) × (q ≤ a)
     is-ranged q v g = let y = gave z lim run n k a f j i₁ h₁ q v g in let r = h₁ .ranged (y .top) (gave-on z lim run n k a f j i₁ h₁ y) in (rw (y .keyed) at (r .0), rw (y .keyed) at (r .1))
 
     falling : (x p q v u : ℕ) → j < x → x < i₁ → GivesAt z run n x p v → GivesAt z run n i₁ q u → q < p
@@ -79,8 +79,8 @@ module _ (z : Sizes) (lim : Limited z) (run : ℕ → Call) (n k a f j : ℕ) wh
           go (Sinking.ends empty is inside lowest) = record { done = reports z lim run n i₁ (busy z lim run n k a f j i₁ h₁) own is; empty = empty; inside = inside; lowest = lowest }
           go (Sinking.fills _ is _ _) = absurd (false≢true (sym (said is) ∙ answered))
 
-      completes : isAnswer (reportAt z run i₁) ≡ true → (q : ℕ) → k ≤ q → q < a → Always z run n j i₁ q → Given z run n j i₁ q
-      completes answered q from up always = ⊎-elim (λ g. g) (⊎-elim (λ lt. absurd (omega (arith, lt, from, y .lowest, h₁ .key))) (λ o. absurd (List·Memᴰ·not-nil (rw (y .empty) at (o .there))))) (h₁ .stacked (y .inside) q from up always)
+      completes : isAnswer (reportAt z run i₁) ≡ true → (q : ℕ) → k ≤ q → q ≤ a → q ≤ largest → Always z run n j i₁ q → Given z run n j i₁ q
+      completes answered q from up _ always = ⊎-elim (λ g. g) (⊎-elim (λ lt. absurd (omega (arith, lt, from, y .lowest, h₁ .key))) (λ o. absurd (List·Memᴰ·not-nil (rw (y .empty) at (o .there))))) (h₁ .stacked (y .inside) q from up always)
         where
           y : Ended
           y = ended answered
@@ -111,7 +111,8 @@ scans-down z lim run n k a f j i w own =
       present = is-present z lim run n k a f j i w;
       ranged = is-ranged z lim run n k a f j i w;
       strict = falling z lim run n k a f j i w;
-      rises = λ e. absurd (down e);
+      narrows = λ e. absurd (down e);
+      last = λ e. absurd (down e);
       sinks = λ _. sinks z lim run n k a f j i w own;
       complete = completes z lim run n k a f j i w own;
       absent = unseen z lim run n scanDown k a f j (is-present z lim run n k a f j) i w;

@@ -4,11 +4,10 @@ use mathlib.Core.Path.{_≡_, refl, sym, ap, _∙_, subst}
 use mathlib.Core.Logic.{_⊎_, inl, inr, ⊎-elim, ⊎-map, _≢_}
 use mathlib.Core.Bool.{true, false}
 use mathlib.Core.List.{List, [], _∷_, _++_, List·Memᴰ, List·Memᴰ·not-nil}
-use native.Mathlib.Nat.{le-refl, le-of-lt, not-suc-le-zero}
+use native.Mathlib.Nat.{not-suc-le-zero}
 use native.Mathlib.Decide.{ℕ-discrete, decLt}
 use native.Mathlib.Omega.{arith}
-use lib.Dec.{ltb}
-use borrow.Author.Tests.{lt-ltb, le-ltb, ltb-true, ltb-false, leb-false}
+use borrow.Author.Tests.{lt-ltb, le-ltb, leb-false}
 use Rattle.rules.specs.declared.Sizes.{Sizes}
 use Rattle.rules.specs.declared.Task.{Task}
 use Rattle.rules.specs.declared.ChunkNo.{ChunkNo}
@@ -17,7 +16,7 @@ use Rattle.rules.specs.declared.Decision.{Decision}
 use Rattle.rules.specs.declared.Report.{Report}
 use Rattle.rules.specs.declared.Write.the-variants as write
 use Rattle.rules.specs.declared.Report.the-variants as report
-use Rattle.rules.specs.Words.{_and_, unused, live, retired, scanDown}
+use Rattle.rules.specs.Words.{unused, live, retired, scanDown}
 use Rattle.rules.specs.Told.{Told, tells, told}
 use Rattle.rules.specs.Tables.{Tables, task, stack, chunk, entry, value}
 use Rattle.rules.specs.Walks.{linked, undeleted, InRange, Present}
@@ -25,7 +24,7 @@ use Rattle.rules.specs.Stages
 use Rattle.rules.specs.Rebalance.{Outcome, gives}
 use Rattle.rules.specs.Calls.{Call, started, calls}
 use Rattle.laws.specs.Counts.{Every}
-use Rattle.laws.proofs.Tests.{by-test, and-left, and-right}
+use Rattle.laws.proofs.Tests.{by-test}
 use Rattle.views.specs.Views.{onWords, onStack}
 use Rattle.views.proofs.Stacks.{member-last, member-others, member-cases, ascends-last}
 use Rattle.statements.specs.Sound.{Limited}
@@ -46,7 +45,7 @@ use Rattle.history.proofs.Shown.{shown-stays}
 use Rattle.scans.specs.Scanned.{Always}
 use Rattle.scans.specs.Sunk.{Sinking, OfGiven, OnIt, Sunk}
 use Rattle.scans.proofs.Judging.{found, row, decision, reports, more, less, here}
-use Rattle.scans.proofs.Down.{down-by, shown-off, next-in, next-low, taken-in, taken-all}
+use Rattle.scans.proofs.Down.{down-by, shown-off, next-in, next-low, up-to-end, up-to-sought, taken-in, taken-all}
 
 module _ (z : Sizes) (lim : Limited z) (run : ℕ → Call) (n : ℕ) where
   pub reached : (i : ℕ) → Reached z (tablesAt z run i)
@@ -241,18 +240,12 @@ module _ (z : Sizes) (lim : Limited z) (run : ℕ → Call) (n : ℕ) where
           pub sinks-low : t .chunk .0 < z .chunks → chunk s c .min < low
           sinks-low i = omega (arith, next-low z lim s (reached i₀) n (h .numbered), sought-held i, over-key i)
 
-          -- the keys to fill with lie below the upper end, and below a held chunk's minimum key, and no others do not
-          under-end : Stages.under z s t ≤ t .argument
-          under-end = by-test (Stages.hasFilled z s t and ltb low (t .argument)) (λ q. rw q (le-of-lt (ltb-true _ _ (and-right (Stages.hasFilled z s t) _ q)))) (λ q. rw q (le-refl _))
-
-          under-low : t .chunk .0 < z .chunks → Stages.under z s t ≤ low
-          under-low i = rw (lt-ltb (t .chunk .0) (z .chunks) i) (by-test (ltb low (t .argument)) (λ q. rw q (le-refl _)) (λ q. rw q (ltb-false _ _ q)))
-
-          in-under : (q : ℕ) → q < t .argument → (t .chunk .0 < z .chunks → q < low) → q < Stages.under z s t
-          in-under q up held = by-test (Stages.hasFilled z s t and ltb low (t .argument)) (λ e. rw e (held (ltb-true _ _ (and-left _ _ e)))) (λ e. rw e up)
+          -- the keys to fill with lie below a held chunk's minimum key
+          under-low : t .chunk .0 < z .chunks → Stages.upTo z s t < low
+          under-low i = omega (arith, up-to-sought z lim s (reached i₀) n (h .numbered), sought-held i, over-key i)
 
           -- a present key in range, and under a held chunk's minimum key, is under the next one's, or on the stack
-          placed : (q v : ℕ) → Present z s q v → k ≤ q → q < a → (t .chunk .0 < z .chunks → q < low) → (q < chunk s c .min) ⊎ OnIt z run n k a j (suc i₀) s (Stages.fills z s t .task) (Stages.fillsWith z s t) q
+          placed : (q v : ℕ) → Present z s q v → k ≤ q → q ≤ a → (t .chunk .0 < z .chunks → q < low) → (q < chunk s c .min) ⊎ OnIt z run n k a j (suc i₀) s (Stages.fills z s t .task) (Stages.fillsWith z s t) q
           placed q v p from up held = elim (decLt q (chunk s c .min)) [ yes lt ↦ inl lt | no ge ↦ inr (there (omega (arith, ge))) ]
             where
               to : q ≤ Stages.sought z s t
@@ -262,7 +255,7 @@ module _ (z : Sizes) (lim : Limited z) (run : ℕ → Call) (n : ℕ) where
               there le = record { at = w .0; there = w .1; keyed = w .2; shows = w .3 }
                 where
                   w : (e : EntryNo) × List·Memᴰ e (Stages.fillsWith z s t) × (entry z s c e .key ≡ q) × ShownBy z s c q
-                  w = taken-all z lim s (reached i₀) n (h .numbered) q v p (rw (h .key) from) (in-under q (rw (h .argument) up) held) to le
+                  w = taken-all z lim s (reached i₀) n (h .numbered) q v p (rw (h .key) from) (rw (h .argument) up) to le
 
           filled : SunkAt (suc i₀)
           filled =
@@ -275,15 +268,15 @@ module _ (z : Sizes) (lim : Limited z) (run : ℕ → Call) (n : ℕ) where
                 begins = λ out. absurd (omega (arith, out, next-in z lim s (reached i₀) n (h .numbered)));
                 stepped = λ _. then-stepped;
                 above = λ _. unsaid (λ q. chunk s c .min ≤ q) (λ x q v lo hi g. elim (decLt (t .chunk .0) (z .chunks)) [ yes i ↦ omega (arith, sinks-low i, h .above i x q v lo hi g) | no out ↦ absurd (h .begins (omega (arith, out)) x q v lo hi g) ]);
-                ranged = λ e m. (rw (← (h .key)) (taken e m .0), omega (arith, taken e m .1, under-end, h .argument), taken e m .2);
+                ranged = λ e m. (rw (← (h .key)) (taken e m .0), omega (arith, taken e m .1, up-to-end z lim s (reached i₀) n (h .numbered), h .argument), taken e m .2);
                 below = λ e m. unsaid (λ q. entry z s c e .key < q) (λ x q v lo hi g. elim (decLt (t .chunk .0) (z .chunks)) [ yes i ↦ omega (arith, taken e m .1, under-low i, h .above i x q v lo hi g) | no out ↦ absurd (h .begins (omega (arith, out)) x q v lo hi g) ]);
                 stacked = λ _ q from up always. found z lim run i₀ q (here z lim run n j i₀ q after (b .call) always) (λ v p. elim (decLt (t .chunk .0) (z .chunks)) [ yes i ↦ later q v from up always p (h .stacked i q from up (less z lim run n j i₀ q always)) | no out ↦ inr (placed q v p from up (λ i. absurd (out i))) ]);
               })
             where
-              taken : (e : EntryNo) → List·Memᴰ e (Stages.fillsWith z s t) → (t .key ≤ entry z s c e .key) × (entry z s c e .key < Stages.under z s t) × (chunk s c .min ≤ entry z s c e .key)
+              taken : (e : EntryNo) → List·Memᴰ e (Stages.fillsWith z s t) → (t .key ≤ entry z s c e .key) × (entry z s c e .key ≤ Stages.upTo z s t) × (chunk s c .min ≤ entry z s c e .key)
               taken = taken-in z lim s (reached i₀) n (h .numbered)
 
-              later : (q v : ℕ) → k ≤ q → q < a → Always z run n j (suc i₀) q → Present z s q v → Given z run n j i₀ q ⊎ ((q < low) ⊎ OnIt z run n k a j i₀ s t (on i₀) q) →
+              later : (q v : ℕ) → k ≤ q → q ≤ a → Always z run n j (suc i₀) q → Present z s q v → Given z run n j i₀ q ⊎ ((q < low) ⊎ OnIt z run n k a j i₀ s t (on i₀) q) →
                   Given z run n j (suc i₀) q ⊎ ((q < chunk s c .min) ⊎ OnIt z run n k a j (suc i₀) s (Stages.fills z s t .task) (Stages.fillsWith z s t) q)
               later q v from up always p (inl g) = inl (more z lim run n j i₀ q g)
               later q v from up always p (inr (inl lt)) = inr (placed q v p from up (λ _. lt))

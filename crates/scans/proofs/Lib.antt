@@ -1,4 +1,5 @@
 pub mod First
+pub mod Past
 pub mod Steps
 pub mod Judging
 pub mod Rising

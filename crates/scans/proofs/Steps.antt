@@ -1,5 +1,5 @@
 -- What a scan's step does, by what is present at its moment.
-use Prim.Native.Nat.{ℕ, _+_, _≤_, _<_}
+use Prim.Native.Nat.{ℕ, _≤_, _<_}
 use mathlib.Core.Path.{_≡_, refl, sym, ap, _∙_}
 use mathlib.Core.Bool.{true, false, false≢true}
 use mathlib.Core.List.{List·Memᴰ}
@@ -7,7 +7,7 @@ use native.Mathlib.Nat.{le-trans}
 use native.Mathlib.Decide.{decLt}
 use native.Mathlib.Omega.{arith}
 use lib.Dec.{ltb, leb}
-use borrow.Author.Tests.{lt-ltb, le-leb, ltb-true, ltb-false, leb-true}
+use borrow.Author.Tests.{le-leb, ltb-true, ltb-false, leb-true}
 use Rattle.rules.specs.declared.Sizes.{Sizes}
 use Rattle.rules.specs.declared.Task.{Task}
 use Rattle.rules.specs.declared.Write.the-variants as write
@@ -15,9 +15,8 @@ use Rattle.rules.specs.declared.Report.the-variants as report
 use Rattle.rules.specs.declared.Decision.{Decision}
 use Rattle.rules.specs.declared.ChunkNo.{ChunkNo}
 use Rattle.rules.specs.declared.EntryNo.{EntryNo}
-use Rattle.rules.specs.Words.{_and_}
 use Rattle.rules.specs.Tables.{Tables, chunk, entry, value}
-use Rattle.rules.specs.Walks.{locate, linked, undeleted, firstPresent, Present, InRange}
+use Rattle.rules.specs.Walks.{locate, linked, lies, undeleted, firstPresent, Present, InRange}
 use Rattle.rules.specs.Stages
 use Rattle.laws.specs.Counts.{Every}
 use Rattle.laws.proofs.EachStage.{at-stage}
@@ -27,7 +26,7 @@ use Rattle.views.proofs.Entries.{links-length}
 use Rattle.statements.specs.Sound.{Limited, Live}
 use Rattle.facts.specs.Facts.{Kept}
 use Rattle.facts.proofs.Covering.{covers, only}
-use Rattle.scans.specs.Scanned.{shows, Clear, Scanning}
+use Rattle.scans.specs.Scanned.{shows, Left, Scanning}
 use Rattle.scans.proofs.First.{FirstOf, first-hit, first-miss}
 
 module _ (z : Sizes) (lim : Limited z) (s : Tables) (kept : Kept z s) (from to : ℕ) where
@@ -55,7 +54,7 @@ module _ (z : Sizes) (lim : Limited z) (s : Tables) (kept : Kept z s) (from to :
   in-range q le lt = record { from = le-trans (range .from) le; to = lt }
 
   -- where such a key is present an entry of that chunk shows it
-  module _ (q v : ℕ) (p : Present z s q v) (le : from ≤ q) (up : q < to) (lt : chunk s c .next .0 < z .chunks → q < chunk s (chunk s c .next) .min) where
+  module _ (q v : ℕ) (p : Present z s q v) (le : from ≤ q) (up : q ≤ to) (lt : chunk s c .next .0 < z .chunks → q < chunk s (chunk s c .next) .min) where
     alive : Live z s (p .chunk)
     alive = record { numbered = p .numbered; isLive = p .isLive }
 
@@ -72,36 +71,37 @@ module _ (z : Sizes) (lim : Limited z) (s : Tables) (kept : Kept z s) (from to :
     unmarked = ap (λ (c : ChunkNo). undeleted z (s .marks) (entry z s c (p .entry) .handle)) (sym same) ∙ p .isUndeleted
 
     showing : shows z (s .entries) (s .marks) c from to (p .entry) ≡ true
-    showing = rw (keyed, le-leb from q le, lt-ltb q to up) unmarked
+    showing = rw (keyed, le-leb from q le, le-leb q to up) unmarked
 
   -- ---- the first present entry
   module _ (i : e .0 < z .entries) where
     first : FirstOf z (s .entries) (s .marks) c from to (chunk s c .used) small (lim .entries) (linked z s c) e
     first = first-hit z (s .entries) (s .marks) c from to (chunk s c .used) small (lim .entries) (z .entries) 0 (chunk s c .head) (linked z s c) links i
 
-    more : (ltb (entry z s c e .key) to and undeleted z (s .marks) (entry z s c e .handle)) ≡ true
-    more = and-right (leb from (entry z s c e .key)) _ (first .showing)
+    ranged : lies from to (entry z s c e .key) ≡ true
+    ranged = and-left _ _ (first .showing)
 
     hit-from : from ≤ entry z s c e .key
-    hit-from = leb-true _ _ (and-left _ _ (first .showing))
+    hit-from = leb-true _ _ (and-left _ _ ranged)
 
-    hit-to : entry z s c e .key < to
-    hit-to = ltb-true _ _ (and-left _ _ more)
+    hit-to : entry z s c e .key ≤ to
+    hit-to = leb-true _ _ (and-right (leb from (entry z s c e .key)) _ ranged)
 
     hit-present : Present z s (entry z s c e .key) (value s (entry z s c e .handle))
-    hit-present = record { chunk = c; entry = e; numbered = here .numbered; isLive = here .isLive; isLinked = first .linked; keyed = refl; isUndeleted = and-right (ltb (entry z s c e .key) to) _ more; valued = refl }
+    hit-present = record { chunk = c; entry = e; numbered = here .numbered; isLive = here .isLive; isLinked = first .linked; keyed = refl; isUndeleted = and-right (lies from to (entry z s c e .key)) _ (first .showing); valued = refl }
 
-    hit-clear : Clear z s from (entry z s c e .key)
+    -- no key from the cursor to that one is present
+    hit-clear : (q v : ℕ) → Present z s q v → from ≤ q → q < entry z s c e .key → ⊥
     hit-clear q v p le lt = omega (arith, first .least (p .entry) (there q v p le up below) (showing q v p le up below), keyed q v p le up below, lt)
       where
-        up : q < to
+        up : q ≤ to
         up = omega (arith, lt, hit-to)
 
         below : chunk s c .next .0 < z .chunks → q < chunk s (chunk s c .next) .min
         below n = omega (arith, lt, kept .tables .key-in-range c (here .numbered) (here .isLive) e (first .linked) .to n)
 
   -- where it has none no key of its range from the cursor on is present
-  missed : z .entries ≤ e .0 → (q v : ℕ) → Present z s q v → from ≤ q → (chunk s c .next .0 < z .chunks → q < chunk s (chunk s c .next) .min) → q < to → ⊥
+  missed : z .entries ≤ e .0 → (q v : ℕ) → Present z s q v → from ≤ q → (chunk s c .next .0 < z .chunks → q < chunk s (chunk s c .next) .min) → q ≤ to → ⊥
   missed o q v p le below up = false≢true (sym (none (p .entry) (there q v p le up below)) ∙ showing q v p le up below)
     where
       none : Every (λ x. shows z (s .entries) (s .marks) c from to x ≡ false) (linked z s c)
@@ -114,9 +114,9 @@ module _ (z : Sizes) (lim : Limited z) (s : Tables) (kept : Kept z s) (n : ℕ) 
 
   scans-by : By (Stages.scans z s t)
   scans-by =
-      picked By (leb (t .argument) (t .key)) (λ o. Scanning.ends refl (λ q v p le lt. beyond o q le lt))
-      (λ _. picked By (ltb (e₀ .0) (z .entries)) (λ i. let j = ltb-true (e₀ .0) (z .entries) i in Scanning.gives _ _ _ refl (hit-present z lim s kept (t .key) (t .argument) j) (hit-from z lim s kept (t .key) (t .argument) j) (hit-to z lim s kept (t .key) (t .argument) j) (omega arith) (hit-only j _ (omega arith)))
-      (λ o. picked By (ltb (chunk s c₀ .next .0) (z .chunks)) (λ i. Scanning.passes _ refl (before (ltb-true _ _ i)) (λ q v p le lt up. missed z lim s kept (t .key) (t .argument) (ltb-false _ _ o) q v p le (λ _. lt) up)) (λ n. ending (ltb-false _ _ o) (ltb-false _ _ n))))
+      picked By (ltb (t .argument) (t .key)) (λ o. Scanning.ends refl (λ q v p l. absurd (beyond (ltb-true _ _ o) q l)))
+      (λ i. picked By (ltb (e₀ .0) (z .entries)) (λ e. giving (ltb-true _ _ e))
+      (λ o. picked By (ltb (chunk s c₀ .next .0) (z .chunks)) (λ m. Scanning.passes _ refl (ltb-false _ _ i) (before (ltb-true _ _ m)) (further (ltb-false _ _ o))) (λ m. ending (ltb-false _ _ o) (ltb-false _ _ m))))
     where
       c₀ : ChunkNo
       c₀ = locate z s (t .key)
@@ -124,19 +124,25 @@ module _ (z : Sizes) (lim : Limited z) (s : Tables) (kept : Kept z s) (n : ℕ) 
       e₀ : EntryNo
       e₀ = firstPresent z s (locate z s (t .key)) (t .key) (t .argument)
 
-      -- none but the pair's key is present from the cursor up to the pair's successor
-      hit-only : e₀ .0 < z .entries → (k : ℕ) → k ≤ entry z s c₀ e₀ .key + 1 → (p w : ℕ) → Present z s p w → t .key ≤ p → p < k → p < t .argument → p ≡ entry z s c₀ e₀ .key
-      hit-only j k most p w there le lt up = elim (decLt p (entry z s c₀ e₀ .key)) [ yes b ↦ absurd (hit-clear z lim s kept (t .key) (t .argument) j p w there le b) | no ge ↦ omega (arith, ge, lt, most) ]
+      beyond : t .argument < t .key → (q : ℕ) → Left t q → ⊥
+      beyond o q l = omega (arith, o, l .from, l .to)
 
-      beyond : leb (t .argument) (t .key) ≡ true → (q : ℕ) → t .key ≤ q → q < t .argument → ⊥
-      beyond o q le lt = omega (arith, leb-true (t .argument) (t .key) o, le, lt)
+      -- the pair is the first that is left
+      giving : e₀ .0 < z .entries → By (record { task = Stages.goesPast t (entry z s c₀ e₀ .key); write = write.Nothing; report = report.Pair (entry z s c₀ e₀ .key) (value s (entry z s c₀ e₀ .handle)) })
+      giving j = Scanning.gives _ _ refl (hit-present z lim s kept (t .key) (t .argument) j) (record { from = hit-from z lim s kept (t .key) (t .argument) j; to = hit-to z lim s kept (t .key) (t .argument) j }) first-left
+        where
+          first-left : (p w : ℕ) → Present z s p w → Left t p → entry z s c₀ e₀ .key ≤ p
+          first-left p w there l = elim (decLt p (entry z s c₀ e₀ .key)) [ yes b ↦ absurd (hit-clear z lim s kept (t .key) (t .argument) j p w there (l .from) b) | no ge ↦ omega (arith, ge) ]
 
-      -- the cursor lies below the next chunk
+      -- the cursor lies below the next chunk, and what is left and present from there on
       before : chunk s c₀ .next .0 < z .chunks → t .key < chunk s (chunk s c₀ .next) .min
       before i = covers z lim s kept (t .key) .1 .to i
 
+      further : z .entries ≤ e₀ .0 → (p w : ℕ) → Present z s p w → Left t p → chunk s (chunk s c₀ .next) .min ≤ p
+      further o p w there l = elim (decLt p (chunk s (chunk s c₀ .next) .min)) [ yes b ↦ absurd (missed z lim s kept (t .key) (t .argument) o p w there (l .from) (λ _. b) (l .to)) | no ge ↦ omega (arith, ge) ]
+
       ending : z .entries ≤ e₀ .0 → z .chunks ≤ chunk s c₀ .next .0 → By (Stages.finishes write.Nothing report.Done)
-      ending o n = Scanning.ends refl (λ q v p le up. missed z lim s kept (t .key) (t .argument) o q v p le (λ i. absurd (out i)) up)
+      ending o n = Scanning.ends refl (λ q v p l. absurd (missed z lim s kept (t .key) (t .argument) o q v p (l .from) (λ i. absurd (out i)) (l .to)))
         where
           out : chunk s c₀ .next .0 < z .chunks → ⊥
           out i = omega (arith, n, i)

@@ -55,8 +55,8 @@ module _ (z : Sizes) (run : ℕ → Call) (n k a j i : ℕ) (s : Tables) (t : Ta
     -- given-above: the held chunk's minimum key is at most each key given
     pub above : Holding → OfGiven (λ q. chunk s (t .chunk) .min ≤ q)
     -- stack-in-range: the keys on the stack lie in the range, from the held chunk's minimum key on
-    pub ranged : Every (λ e. (k ≤ entry z s (t .chunk) e .key) × (entry z s (t .chunk) e .key < a) × (chunk s (t .chunk) .min ≤ entry z s (t .chunk) e .key)) on
+    pub ranged : Every (λ e. (k ≤ entry z s (t .chunk) e .key) × (entry z s (t .chunk) e .key ≤ a) × (chunk s (t .chunk) .min ≤ entry z s (t .chunk) e .key)) on
     -- stack-under-given: and below each key given
     pub below : Every (λ e. OfGiven (λ q. entry z s (t .chunk) e .key < q)) on
     -- stacked: a key in range present at every moment has been given, or lies under the held chunk's minimum key, or is on the stack
-    pub stacked : Holding → (q : ℕ) → k ≤ q → q < a → Always z run n j i q → Given z run n j i q ⊎ ((q < chunk s (t .chunk) .min) ⊎ OnIt q)
+    pub stacked : Holding → (q : ℕ) → k ≤ q → q ≤ a → Always z run n j i q → Given z run n j i q ⊎ ((q < chunk s (t .chunk) .min) ⊎ OnIt q)

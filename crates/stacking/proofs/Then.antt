@@ -3,10 +3,12 @@ use Prim.Native.Nat.{ℕ, _-_, _≤_, _<_}
 use mathlib.Core.Path.{_≡_, refl, sym, ap, _∙_}
 use mathlib.Core.Bool.{Bool, true, false}
 use mathlib.Core.List.{List, []}
+use native.Mathlib.Nat.{le-refl}
 use native.Mathlib.Omega.{arith}
+use lib.Dec.{ltb}
 use lib.ListN.{set}
 use lib.Seq.{set-getD}
-use borrow.Author.Tests.{lt-ltb, le-ltb, eq-eqb, ne-eqb}
+use borrow.Author.Tests.{lt-ltb, le-ltb, ltb-false, eq-eqb, ne-eqb}
 use Rattle.rules.specs.declared.Sizes.{Sizes}
 use Rattle.rules.specs.declared.Task.{Task}
 use Rattle.rules.specs.declared.Chunk.{Chunk}
@@ -16,11 +18,28 @@ use Rattle.rules.specs.declared.Write.the-variants as write
 use Rattle.rules.specs.Words.{pick, NONE, noEntry}
 use Rattle.rules.specs.Tables.{Tables, stack, putStack, chunk}
 use Rattle.rules.specs.Walks.{depth, top, over, within, withinFrom}
-use Rattle.rules.specs.Stages.{decide, stageDoes, isLowest, under, finishes, fills, stackThen}
+use Rattle.rules.specs.Stages.{decide, stageDoes, isLowest, upTo, finishes, fills, stackThen}
 use Rattle.rows.specs.Rows.{stackRows, tables}
 use Rattle.walks.proofs.Laws.{top-on, top-off}
 use Rattle.stacking.specs.Stacked.{Stacked}
 
+-- ---- the largest key to fill with
+module _ (z : Sizes) (s : Tables) (t : Task) where
+  pub up-to-first : z .chunks ≤ t .chunk .0 → upTo z s t ≡ t .argument
+  up-to-first out = rw (le-ltb _ _ out, le-ltb (t .argument) (t .argument) (le-refl _))
+
+  module _ (c : t .chunk .0 < z .chunks) (x : Chunk) (p : x ≡ chunk s (t .chunk)) where
+    pub up-to-end : t .argument < x .min → upTo z s t ≡ t .argument
+    up-to-end b = rw (lt-ltb _ _ c, ← p, le-ltb (x .min - 1) (t .argument) (omega (arith, b)))
+
+    pub up-to-below : x .min ≤ t .argument → upTo z s t ≡ x .min - 1
+    up-to-below b = rw (lt-ltb _ _ c, ← p) (go (ltb (x .min - 1) (t .argument)) refl)
+      where
+        go : (a : Bool) → ltb (x .min - 1) (t .argument) ≡ a → pick a (x .min - 1) (t .argument) ≡ x .min - 1
+        go true q = refl
+        go false q = omega (arith, b, ltb-false (x .min - 1) (t .argument) q)
+
+-- ---- the stack
 module _ (z : Sizes) (s : Tables) (t u : Task) (n : ℕ) where
   pub then-other : (t .stage ≡ 23 → ⊥) → stackThen z s t n ≡ stack s n
   then-other ne = rw (ne-eqb _ _ ne)
@@ -42,10 +61,10 @@ module _ (z : Sizes) (s : Tables) (t u : Task) (n : ℕ) where
       decided = r ∙ rw (e, le-ltb _ _ none-on)
 
       -- where the row says so, the stack is filled from its chunk
-      pub then-filled : u .stage ≡ 23 → (x : Chunk) → x ≡ chunk s (u .chunk) → (to : ℕ) → to ≡ under z s t → stackThen z s t n ≡ over (withinFrom z (s .entries) (u .chunk) (t .key) to (z .entries) (x .head)) (stack s n)
+      pub then-filled : u .stage ≡ 23 → (x : Chunk) → x ≡ chunk s (u .chunk) → (to : ℕ) → to ≡ upTo z s t → stackThen z s t n ≡ over (withinFrom z (s .entries) (u .chunk) (t .key) to (z .entries) (x .head)) (stack s n)
       then-filled p x c to b = rw (c, b) (go (isLowest z s t) refl decided)
         where
-          go : (b : Bool) → isLowest z s t ≡ b → u ≡ pick b (finishes write.Nothing report.Done) (fills z s t) .task → stackThen z s t n ≡ over (within z s (u .chunk) (t .key) (under z s t)) (stack s n)
+          go : (b : Bool) → isLowest z s t ≡ b → u ≡ pick b (finishes write.Nothing report.Done) (fills z s t) .task → stackThen z s t n ≡ over (within z s (u .chunk) (t .key) (upTo z s t)) (stack s n)
           go true l k = absurd (omega (arith, ap (λ (x : Task). x .stage) k))
           go false l k = rw (eq-eqb _ _ e, le-ltb _ _ none-on, l, k)
 

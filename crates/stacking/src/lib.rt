@@ -10,28 +10,26 @@ ghost use mathlib.Core.Path.{_≡_};
 ghost use mathlib.Core.Bool.{Bool};
 ghost use mathlib.Core.List.{List, []};
 ghost use Prim.Native.Nat.{ℕ, _*_};
-ghost use lib.Dec.{ltb, leb};
 ghost use lib.ListN.{length, getD};
-ghost use Rattle.rules.specs.Words.{_and_};
-ghost use Rattle.rules.specs.Walks.{withinFrom, over};
-ghost use Rattle.rules.specs.Stages.{under};
+ghost use Rattle.rules.specs.Walks.{lies, withinFrom, over};
+ghost use Rattle.rules.specs.Stages.{upTo};
 ghost use Rattle.rows.specs.Rows.{entryRows, stackRows, tables};
 ghost use Rattle.stacking.specs.Stacked.{Stands, Stacked, Restacks};
 
-// The key lies in the range, its upper end left out.
+// The key lies in the range, whose ends both count.
 fn in_range(k: u64, from: u64, to: u64) -> bool
-    ensures { λ r. ⌜ r ≡ (leb from k and ltb k to) ⌝ }
+    ensures { λ r. ⌜ r ≡ lies from to k ⌝ }
 {
     if k < from {
         return false;
     }
-    k < to
+    k <= to
 }
 
-// The keys to fill with lie below the upper end and, once a chunk is held, below its minimum key.
+// The largest key to fill with: the upper end or, once a chunk is held, the last key below its minimum (0 where that is 0).
 fn upper_end(z: Sizes, chunks: &[u64], t: Task) -> u64
     requires { ⌜ length (now chunks) ≡ z .chunks * 6 ⌝ }
-    ensures { λ r. ⌜ ((d ts es vs ms : List ℕ) → r ≡ under z (tables z d ts (now (chunks .entry)) es vs ms) t) ⌝ }
+    ensures { λ r. ⌜ ((d ts es vs ms : List ℕ) → r ≡ upTo z (tables z d ts (now (chunks .entry)) es vs ms) t) ⌝ }
 {
     let c = t.chunk;
     let i = c.0 as usize;
@@ -39,11 +37,13 @@ fn upper_end(z: Sizes, chunks: &[u64], t: Task) -> u64
         return t.argument;
     }
     let x = rows::chunk_at(z, chunks, c);
-    if x.min < t.argument {
-        x.min
-    } else {
-        t.argument
+    if t.argument < x.min {
+        return t.argument;
     }
+    if x.min == 0 {
+        return 0;
+    }
+    x.min - 1
 }
 
 // The linked entries in range, from the head on, are laid over task `n`'s stack, from the bottom on.

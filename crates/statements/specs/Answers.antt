@@ -1,5 +1,5 @@
 -- Demand 2: over any order of calls from fresh every finished operation answers as a sequential ordered map does, and a scan is judged pair by pair.
-use Prim.Native.Nat.{ℕ, suc, _≤_, _<_}
+use Prim.Native.Nat.{ℕ, suc, _+_, _-_, _≤_, _<_}
 use mathlib.Core.Path.{_≡_}
 use mathlib.Core.Logic.{_⊎_, _≢_, _↔_}
 use mathlib.Core.Bool.{true, false}
@@ -8,7 +8,7 @@ use lib.Dec.{eqb}
 use Rattle.rules.specs.declared.Sizes.{Sizes}
 use Rattle.rules.specs.declared.Report.{Report}
 use Rattle.rules.specs.declared.Report.the-variants as report
-use Rattle.rules.specs.Words.{pick, NONE, scan, scanDown, isScan}
+use Rattle.rules.specs.Words.{pick, NONE, largest, scan, scanDown, isScan}
 use Rattle.rules.specs.Tables.{stack, chunk}
 use Rattle.rules.specs.Told.{isAnswer}
 use Rattle.rules.specs.Walks.{depth, Present}
@@ -87,21 +87,22 @@ module _ (z : Sizes) (run : ℕ → Call) where
     begins : taskAt z run i n .chunk .0 ≡ NONE → taskAt z run (suc i) n .chunk .0 < z .chunks → SinksAt n i
     lowers : chunk (tablesAt z run (suc i)) (taskAt z run (suc i) n .chunk) .min < chunk (tablesAt z run i) (taskAt z run i n .chunk) .min → SinksAt n i
 
-  -- "keys ascend strictly", downward "with falling keys": q comes after p
-  abbrev pub Comes : ℕ → ℕ → ℕ → Type 0
-  Comes op p q = pick (eqb op scanDown) (q < p) (p < q)
+  -- how many keys are left to an upward scan of task n at moment i, from its cursor to its upper end
+  abbrev pub left : ℕ → ℕ → ℕ
+  left n i = taskAt z run i n .argument + 1 - taskAt z run i n .key
 
   -- of step i of a scan, up or down, from k to a on task n that call j started
   pub record ScansAt (n op k a j i : ℕ) : Type 0 where
-    -- a pair is present at its step, with that value; its key lies in the range: "the lower end counts, the upper doesn't"; it comes after those given before
+    -- a pair is present at its step, with that value; its key lies in the range, whose ends both count; "keys ascend strictly", downward "with falling keys"
     pub present : (q v : ℕ) → GivesAt n i q v → lookup (mapAt z run i) q ≡ some v
-    pub ranged : (q v : ℕ) → GivesAt n i q v → (k ≤ q) × (q < a)
-    pub strict : (x p q v w : ℕ) → j < x → x < i → GivesAt n x p v → GivesAt n i q w → Comes op p q
-    -- a step that gives a pair or moves on makes an upward scan's cursor rise, and brings a downward one nearer to its end
-    pub rises : op ≡ scan → isAnswer (reportAt z run i) ≡ false → taskAt z run i n .key < taskAt z run (suc i) n .key
+    pub ranged : (q v : ℕ) → GivesAt n i q v → (k ≤ q) × (q ≤ a)
+    pub strict : (x p q v w : ℕ) → j < x → x < i → GivesAt n x p v → GivesAt n i q w → pick (eqb op scanDown) (q < p) (p < q)
+    -- a step that gives a pair or moves on leaves fewer keys to an upward scan, and none where the pair is at the largest key, so that the next step ends it; it brings a downward one nearer to its end
+    pub narrows : op ≡ scan → isAnswer (reportAt z run i) ≡ false → left n (suc i) < left n i
+    pub last : op ≡ scan → (v : ℕ) → GivesAt n i largest v → left n (suc i) ≡ 0
     pub sinks : op ≡ scanDown → isAnswer (reportAt z run i) ≡ false → SinksAt n i
-    -- at its end a key in range that is present at every moment from its first step to its last has been given; one absent at every such moment never is
-    pub complete : isAnswer (reportAt z run i) ≡ true → (q : ℕ) → k ≤ q → q < a → ((p : ℕ) → During n j i p → lookup (mapAt z run p) q ≢ none) → Given n j i q
+    -- at its end a key in range, of 64 bits, that is present at every moment from its first step to its last has been given; one absent at every such moment never is
+    pub complete : isAnswer (reportAt z run i) ≡ true → (q : ℕ) → k ≤ q → q ≤ a → q ≤ largest → ((p : ℕ) → During n j i p → lookup (mapAt z run p) q ≢ none) → Given n j i q
     pub absent : (q : ℕ) → ((p : ℕ) → During n j i p → lookup (mapAt z run p) q ≡ none) → Given n j i q → ⊥
     -- it answers done, and changes nothing
     pub answers : isAnswer (reportAt z run i) ≡ true → reportAt z run i ≡ report.Done

@@ -7,16 +7,16 @@ use mathlib.Core.List.{List, [], _∷_, _++_, List·Memᴰ, List·Memᴰ·head, 
 use native.Mathlib.Nat.{le-trans, le-of-suc-le-suc, not-suc-le-zero}
 use native.Mathlib.Numerals.{add-one}
 use native.Mathlib.Omega.{arith}
-use lib.Dec.{ltb, leb}
+use lib.Dec.{leb}
 use lib.ListN.{length, getD, set, take, replicate}
-use borrow.Author.Tests.{lt-ltb, le-ltb, le-leb, ltb-true, leb-true}
+use borrow.Author.Tests.{lt-ltb, le-ltb, le-leb, leb-true}
 use Rattle.rules.specs.declared.Sizes.{Sizes}
 use Rattle.rules.specs.declared.Entry.{Entry}
 use Rattle.rules.specs.declared.ChunkNo.{ChunkNo}
 use Rattle.rules.specs.declared.EntryNo.{EntryNo}
-use Rattle.rules.specs.Words.{_and_, NONE, noEntry}
+use Rattle.rules.specs.Words.{NONE, noEntry}
 use Rattle.rules.specs.Tables.{entryAt}
-use Rattle.rules.specs.Walks.{withinFrom, depth, over}
+use Rattle.rules.specs.Walks.{lies, withinFrom, depth, over}
 use Rattle.rules.specs.Map.{Ascends}
 use Rattle.laws.specs.Counts.{Every}
 use Rattle.laws.proofs.Tests.{picked, both, and-left, and-right}
@@ -129,9 +129,9 @@ module _ (z : Sizes) (es : List Entry) (c : ChunkNo) (from to : ℕ) where
   -- of the list those with a key in range, in its order
   pub record Within (k : ℕ) (l r : List EntryNo) : Type 0 where
     pub listed : Every (λ x. List·Memᴰ x l) r
-    pub ranged : Every (λ x. (from ≤ entryAt z es c x .key) × (entryAt z es c x .key < to)) r
+    pub ranged : Every (λ x. (from ≤ entryAt z es c x .key) × (entryAt z es c x .key ≤ to)) r
     pub rises : Ascends (λ (x : EntryNo). entryAt z es c x .key) k r
-    pub all : Every (λ x. from ≤ entryAt z es c x .key → entryAt z es c x .key < to → List·Memᴰ x r) l
+    pub all : Every (λ x. from ≤ entryAt z es c x .key → entryAt z es c x .key ≤ to → List·Memᴰ x r) l
     pub short : length r ≤ length l
 
   module _ (used : ℕ) (small : used ≤ z .entries) (sized : z .entries ≤ NONE) where
@@ -146,19 +146,19 @@ module _ (z : Sizes) (es : List Entry) (c : ChunkNo) (from to : ℕ) where
     within-view (suc fuel) k e [] b h = rw (h, le-ltb NONE (z .entries) sized) (none k)
     within-view (suc fuel) k e (x ∷ l) b h =
         rw (h .0, lt-ltb (x .0) (z .entries) (omega (arith, h .1)))
-        (picked (Within k (x ∷ l)) (leb from (entryAt z es c x .key) and ltb (entryAt z es c x .key) to) (taken (within-view fuel _ _ l (le-of-suc-le-suc b) (h .3))) (left (within-view fuel _ _ l (le-of-suc-le-suc b) (h .3))))
+        (picked (Within k (x ∷ l)) (lies from to (entryAt z es c x .key)) (taken (within-view fuel _ _ l (le-of-suc-le-suc b) (h .3))) (left (within-view fuel _ _ l (le-of-suc-le-suc b) (h .3))))
       where
-        taken : {r : List EntryNo} → Within (entryAt z es c x .key + 1) l r → (leb from (entryAt z es c x .key) and ltb (entryAt z es c x .key) to) ≡ true → Within k (x ∷ l) (x ∷ r)
+        taken : {r : List EntryNo} → Within (entryAt z es c x .key + 1) l r → (lies from to (entryAt z es c x .key)) ≡ true → Within k (x ∷ l) (x ∷ r)
         taken w t =
             record {
               listed = λ y m. ⊎-elim (λ q. List·Memᴰ·head q) (λ n. List·Memᴰ·tail (w .listed y n)) (List·Memᴰ·cases-cons m);
-              ranged = λ y m. ⊎-elim (λ (q : y ≡ x). rw q (leb-true _ _ (and-left _ _ t), ltb-true _ _ (and-right (leb from (entryAt z es c x .key)) _ t))) (w .ranged y) (List·Memᴰ·cases-cons m);
+              ranged = λ y m. ⊎-elim (λ (q : y ≡ x). rw q (leb-true _ _ (and-left _ _ t), leb-true _ _ (and-right (leb from (entryAt z es c x .key)) _ t))) (w .ranged y) (List·Memᴰ·cases-cons m);
               rises = (h .2, w .rises);
               all = λ y m a o. ⊎-elim (λ q. List·Memᴰ·head q) (λ n. List·Memᴰ·tail (w .all y n a o)) (List·Memᴰ·cases-cons m);
               short = omega (arith, w .short);
             }
 
-        left : {r : List EntryNo} → Within (entryAt z es c x .key + 1) l r → (leb from (entryAt z es c x .key) and ltb (entryAt z es c x .key) to) ≡ false → Within k (x ∷ l) r
+        left : {r : List EntryNo} → Within (entryAt z es c x .key + 1) l r → (lies from to (entryAt z es c x .key)) ≡ false → Within k (x ∷ l) r
         left {r = r} w t =
             record {
               listed = λ y m. List·Memᴰ·tail (w .listed y m);
@@ -168,5 +168,5 @@ module _ (z : Sizes) (es : List Entry) (c : ChunkNo) (from to : ℕ) where
               short = omega (arith, w .short);
             }
           where
-            out : from ≤ entryAt z es c x .key → entryAt z es c x .key < to → ⊥
-            out a o = false≢true (sym t ∙ both _ _ (le-leb from (entryAt z es c x .key) a) (lt-ltb (entryAt z es c x .key) to o))
+            out : from ≤ entryAt z es c x .key → entryAt z es c x .key ≤ to → ⊥
+            out a o = false≢true (sym t ∙ both _ _ (le-leb from (entryAt z es c x .key) a) (le-leb (entryAt z es c x .key) to o))

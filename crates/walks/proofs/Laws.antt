@@ -7,7 +7,7 @@ use native.Mathlib.Nat.{lt-irrefl, le-antisymm, zero-lt-suc, not-suc-le-zero, le
 use native.Mathlib.Numerals.{add-one, sub-one}
 use native.Mathlib.Omega.{arith}
 use borrow.Author.Tests.{lt-ltb, le-ltb, ltb-true, ltb-false, le-leb, lt-leb, eq-eqb, ne-eqb}
-use lib.Dec.{eqb, ltb, leb}
+use lib.Dec.{eqb, ltb}
 use lib.ListN.{length, getD, drop}
 use lib.Seq.{drop-cons, drop-nil}
 use Rattle.rules.specs.declared.Sizes.{Sizes}
@@ -17,7 +17,7 @@ use Rattle.rules.specs.declared.ChunkNo.{ChunkNo}
 use Rattle.rules.specs.declared.EntryNo.{EntryNo}
 use Rattle.rules.specs.Words.{pick, _and_, NONE, chunkNo, noChunk, noEntry, unused}
 use Rattle.rules.specs.Tables.{chunkAt, entryAt}
-use Rattle.rules.specs.Walks.{locateFrom, beforeFrom, findFrom, placeFrom, withinFrom, depth, top}
+use Rattle.rules.specs.Walks.{locateFrom, beforeFrom, findFrom, placeFrom, lies, withinFrom, depth, top}
 use Rattle.rules.specs.Rebalance.{unusedCount, unusedFrom, publishedOn, heldChunk}
 use Rattle.rows.specs.Rows.{rowsFrom, stackOf, stackRows}
 use Rattle.rows.proofs.Laws.{length-rows, row-read, rows-step, rows-done}
@@ -116,7 +116,7 @@ module _ (z : Sizes) (es : List Entry) (c : ChunkNo) (from to : ℕ) (e : EntryN
   within-out zero h = refl
   within-out (suc n) h = rw (le-ltb _ _ h)
 
-  pub within-next : (left : ℕ) → 0 < left → e .0 < z .entries → (x : Entry) → x ≡ entryAt z es c e → (b : Bool) → b ≡ (leb from (x .key) and ltb (x .key) to) → withinFrom z es c from to left e ≡ pick b (e ∷ withinFrom z es c from to (left - 1) (x .next)) (withinFrom z es c from to (left - 1) (x .next))
+  pub within-next : (left : ℕ) → 0 < left → e .0 < z .entries → (x : Entry) → x ≡ entryAt z es c e → (b : Bool) → b ≡ lies from to (x .key) → withinFrom z es c from to left e ≡ pick b (e ∷ withinFrom z es c from to (left - 1) (x .next)) (withinFrom z es c from to (left - 1) (x .next))
   unfolding withinFrom
   within-next left p h x q b t = fuelled (λ n. withinFrom z es c from to n e) (λ n. pick b (e ∷ withinFrom z es c from to n (x .next)) (withinFrom z es c from to n (x .next))) (λ n. rw (lt-ltb _ _ h, ← q, ← t)) left p
 

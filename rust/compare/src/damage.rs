@@ -1,6 +1,6 @@
 //! Damage to lent words, and calls on what is left.
-use crate::stacks::{change, scan_down, WAYS};
-use crate::{indexes, Call, Chance};
+use crate::stacks::{change, WAYS};
+use crate::{ends, indexes, Call, Chance};
 use model::words::{Words, INDEX, INDEX_WORDS, NONE, TASK_ROWS};
 use model::{CHUNKS, ENTRIES, HANDLES, TASKS};
 
@@ -129,9 +129,7 @@ pub fn gentle(r: &mut Chance, w: &mut Words) {
                 *word = if table == 4 { r.word() } else { *word ^ 1 };
             }
         }
-        12 => {
-            scan_down(r, w);
-        }
+        12 => ends::to_scan(r, w),
         13 => {
             let (n, way) = (r.below(TASKS), r.below(WAYS));
             change(r, w, n, way);
@@ -185,7 +183,11 @@ pub fn any_call(r: &mut Chance, w: &Words) -> Call {
         w[3][r.below(w[3].len())]
     };
     match r.below(16) {
-        0 | 1 => Call::Start(r.below(TASKS + 1) as u64, r.below(10) as u64, key, r.word(), r.below(5) as u64),
+        0 | 1 => {
+            let any = r.word();
+            let argument = r.of(&[any, key, key.wrapping_add(1), key.wrapping_sub(1), NONE, 0]);
+            Call::Start(r.below(TASKS + 1) as u64, r.below(10) as u64, key, argument, r.below(5) as u64)
+        }
         2 | 3 => Call::Begin(key),
         4..=6 => Call::Rebalance,
         7 if r.once_in(20) => Call::Fresh,

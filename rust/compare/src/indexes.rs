@@ -1,6 +1,6 @@
 //! Damage aimed at the index, tasks that come to locate, and how the index stood to a call that located.
 use crate::damage::{any_call, damage, lengthen};
-use crate::{stacks, Call, Chance};
+use crate::{ends, stacks, Call, Chance};
 use model::words::{Words, INDEX, INDEX_WORDS, NONE};
 use model::{Report, CHUNKS, HANDLES, TASKS};
 
@@ -227,13 +227,15 @@ fn near(r: &mut Chance, w: &Words) -> u64 {
 
 /// A task comes to locate a key, at stage 1, 16, 22 or 23.
 pub fn to_locate(r: &mut Chance, w: &mut Words) {
-    let (n, key, held) = (r.below(TASKS), near(r, w), stacks::in_use(r, w) as u64);
-    let (chunk, handle) = (if r.once_in(2) { NONE } else { held }, r.below(HANDLES) as u64);
+    let (n, key, held) = (r.below(TASKS), near(r, w), stacks::in_use(r, w));
+    let (chunk, handle) = (if r.once_in(2) { NONE } else { held as u64 }, r.below(HANDLES) as u64);
+    let end = ends::end(r, w, held);
+    let (lower, upper) = (r.of(&[0, 0, key, end]), r.of(&[NONE, NONE, key, end]));
     let row = match r.below(4) {
         0 => [1, 1 + r.below(6) as u64, 1, key, 5, NONE, NONE, NONE, NONE, 0, 0],
         1 => [16, 6, 0, key, 0, NONE, NONE, handle, NONE, 0, 0],
-        2 => [22, 7, 0, key, NONE, NONE, NONE, NONE, NONE, 0, 0],
-        _ => [23, 8, 0, 0, key, chunk, NONE, NONE, NONE, 0, 0],
+        2 => [22, 7, 0, key, upper, NONE, NONE, NONE, NONE, 0, 0],
+        _ => [23, 8, 0, lower, key, chunk, NONE, NONE, NONE, 0, 0],
     };
     if row[0] == 16 {
         w[5][handle as usize] = 1;
@@ -259,7 +261,7 @@ pub fn located(w: &Words, call: Call, report: Report) -> Option<u64> {
         (Call::Begin(key), _) => Some(key),
         (Call::Step(n), _) => match w[1][n as usize * 11..][..11] {
             [1 | 16, _, _, key, ..] => Some(key),
-            [22, _, _, cursor, end, ..] => (cursor < end).then_some(cursor),
+            [22, _, _, cursor, end, ..] => (cursor <= end).then_some(cursor),
             [23, _, _, _, upper, chunk, ..] if report == Report::MovedOn && stacks::entries(w, n as usize).is_empty() => match chunk {
                 NONE => Some(upper),
                 chunk => w[2][chunk as usize * 6 + 2].checked_sub(1),

@@ -5,6 +5,7 @@ use std::io::{Read, Write};
 use std::process::{Child, Command, Stdio};
 
 pub mod damage;
+pub mod ends;
 pub mod indexes;
 pub mod runs;
 pub mod spread;

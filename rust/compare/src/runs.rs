@@ -1,5 +1,5 @@
 //! Random runs that keep operations finishing and rebalances going, and now and then ask for what is refused.
-use crate::{Call, Chance};
+use crate::{ends, Call, Chance};
 use model::words::{Words, NONE};
 use model::TASKS;
 
@@ -22,7 +22,7 @@ pub fn filling() -> Habit {
 }
 
 pub fn habit(r: &mut Chance) -> Habit {
-    const MIXES: [&[u64]; 9] = [
+    const MIXES: [&[u64]; 11] = [
         &[1, 2, 3, 4, 5, 6, 7, 8],
         &[2, 3, 4],
         &[2, 2, 3, 6],
@@ -30,6 +30,8 @@ pub fn habit(r: &mut Chance) -> Habit {
         &[2, 6, 7],
         &[2, 6, 8],
         &[8, 8, 2, 3, 6],
+        &[7, 7, 2, 3, 6],
+        &[7, 8, 2, 3],
         &[3, 6],
         &[5, 6, 4],
     ];
@@ -54,6 +56,15 @@ pub fn run_keys(r: &mut Chance) -> Vec<u64> {
     let near = r.once_in(2);
     keys.extend((0..count).map(|_| if near { r.word() % 2000 } else { r.word() }));
     keys
+}
+
+/// One of the run's keys, at times the largest of all or the one below it.
+fn any_key(r: &mut Chance, keys: &[u64]) -> u64 {
+    match r.below(32) {
+        0 | 1 => NONE,
+        2 => NONE - 1,
+        _ => r.of(keys),
+    }
 }
 
 pub fn odd_call(r: &mut Chance, keys: &[u64]) -> Call {
@@ -85,12 +96,14 @@ pub fn next_call(r: &mut Chance, words: &Words, keys: &[u64], habit: &mut Habit,
     if words[1][t as usize * 11] != 0 {
         return Call::Step(t);
     }
-    let (op, mut k, mut a) = (r.of(habit.mix), r.of(keys), if r.once_in(4) { 1 + r.below(3) as u64 } else { r.of(keys) });
+    let (op, mut k, mut a) = (r.of(habit.mix), any_key(r, keys), if r.once_in(4) { 1 + r.below(3) as u64 } else { r.of(keys) });
     if let Some(n) = &mut habit.in_turn {
         k = keys[*n % keys.len()];
         *n += 1;
     }
-    if op >= 7 && k > a && !r.once_in(10) {
+    if op >= 7 && r.once_in(2) {
+        [k, a] = ends::to_start(r, words);
+    } else if op >= 7 && k > a && !r.once_in(10) {
         (k, a) = (a, k);
     }
     Call::Start(t, op, k, a, 1 + r.below(3) as u64)

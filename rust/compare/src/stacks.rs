@@ -1,6 +1,6 @@
 //! Tasks that scan down, put into lent words, and damage aimed at their stacks.
 use crate::damage::damage;
-use crate::Chance;
+use crate::{ends, Chance};
 use model::words::{Words, NONE, TASK_ROWS};
 use model::{CHUNKS, ENTRIES, TASKS};
 
@@ -21,7 +21,7 @@ pub fn write(w: &mut Words, n: usize, stack: &[u64]) {
 }
 
 /// The linked entries of a chunk, as far as its words let one follow them.
-fn linked(w: &Words, c: usize) -> Vec<u64> {
+pub fn linked(w: &Words, c: usize) -> Vec<u64> {
     let next = |&e: &u64| w[3].get((c * ENTRIES + e as usize) * 3 + 2).copied();
     let numbers = std::iter::successors(w[2].get(c * 6 + 4).copied(), next);
     numbers.take_while(|&e| e < ENTRIES as u64).take(ENTRIES).collect()
@@ -41,9 +41,10 @@ pub fn in_use(r: &mut Chance, w: &Words) -> usize {
     }
 }
 
-/// A task comes to scan down: it holds nothing, or a chunk with none, some or all of its linked entries on the stack.
+/// A task comes to scan down: it holds nothing, or a chunk, at times the first, with none, some or all of its linked entries on the stack.
 pub fn scan_down(r: &mut Chance, w: &mut Words) -> usize {
-    let (n, c, keep) = (r.below(TASKS), in_use(r, w), r.below(4));
+    let (n, first, keep) = (r.below(TASKS), w[0][0].min(31) as usize, r.below(4));
+    let c = if r.once_in(4) { first } else { in_use(r, w) };
     let mut stack = linked(w, c);
     match keep {
         0 => stack.clear(),
@@ -52,8 +53,7 @@ pub fn scan_down(r: &mut Chance, w: &mut Words) -> usize {
         _ => {}
     }
     let held = if keep == 0 && r.once_in(2) { NONE } else { c as u64 };
-    let ends = [0, 1, NONE, NONE - 1, r.word(), w[2][c * 6 + 2], w[3][c * ENTRIES * 3]];
-    let (lower, upper) = (r.of(&ends), r.of(&ends));
+    let [lower, upper] = ends::both(r, w, c);
     w[1][n * 11..n * 11 + 11].copy_from_slice(&[23, 8, 0, lower, upper, held, NONE, NONE, NONE, 0, 0]);
     write(w, n, &stack);
     n

@@ -173,7 +173,7 @@ fn longest_list(t: &Tables) -> usize {
 /// Task 0 scans down, and its next step fills the stack with the longest list.
 pub fn scanning_down(t: &Tables) -> Tables {
     let (mut t, c) = (t.clone(), longest_list(t));
-    let upper = last_key(&t, c) + 1;
+    let upper = last_key(&t, c);
     assert_eq!(t.locate(upper), c);
     assert_eq!(t.start(0, 8, 0, upper, 0), Report::MovedOn);
     t
@@ -181,10 +181,10 @@ pub fn scanning_down(t: &Tables) -> Tables {
 
 /// Seven tasks that scan down, each with a list of 32 on its stack.
 pub fn busy_down(mut t: Tables) -> Tables {
-    let whole = |&c: &usize| t.chunks[c].linked().count() == 32 && t.locate(last_key(&t, c) + 1) == c;
+    let whole = |&c: &usize| t.chunks[c].linked().count() == 32;
     let full: Vec<usize> = chain(&t).into_iter().filter(whole).collect();
     for (n, &c) in (1..TASKS).zip(full.iter().rev().cycle()) {
-        let upper = last_key(&t, c) + 1;
+        let upper = last_key(&t, c);
         assert_eq!([t.start(n as u64, 8, 0, upper, 0), t.step(n as u64)], [Report::MovedOn; 2]);
         assert_eq!(depth(&t, n), 32);
     }

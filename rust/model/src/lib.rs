@@ -1,4 +1,4 @@
-//! A second implementation of document 01 and of requests E1 to E3, in plain Rust with typed structs, written from those documents and
+//! A second implementation of document 01 and of requests E1 to E5, in plain Rust with typed structs, written from those documents and
 //! the header, apart from the rules and the code. Its locating is the plain walk along the chain: no answer of it goes by the index.
 
 mod calls;
@@ -115,7 +115,7 @@ pub struct Task {
     pub function: u64,
     /// an upward scan's cursor, a downward one's lower end
     pub key: u64,
-    /// a scan's upper end
+    /// a scan's upper end, which counts
     pub argument: u64,
     pub chunk: Option<ChunkNo>,
     pub entry: Option<EntryNo>,
@@ -233,7 +233,7 @@ impl Operation {
         matches!(self, Operation::Upsert | Operation::Compute)
     }
 
-    /// Both scans go from a lower end to an upper.
+    /// Both scans go from a lower end to an upper, both counted.
     pub fn is_scan(self) -> bool {
         matches!(self, Operation::Scan | Operation::ScanDown)
     }

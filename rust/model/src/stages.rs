@@ -54,6 +54,18 @@ impl Task {
             ..self
         })
     }
+
+    /// An upward scan past the key that it gave: the cursor is one above it, or at the largest key stays there, the upper end one below.
+    fn past(self, key: u64) -> Task {
+        match key.checked_add(1) {
+            Some(cursor) => Task { key: cursor, ..self },
+            None => Task {
+                key,
+                argument: key - 1,
+                ..self
+            },
+        }
+    }
 }
 
 impl Tables {
@@ -287,7 +299,7 @@ impl Tables {
     /// Stage 22: the first present key in range of the chunk that has the cursor, or on to the next chunk.
     fn scan(&self, task: Task) -> Outcome {
         let (cursor, end) = (task.key, task.argument);
-        if cursor >= end {
+        if cursor > end {
             return Finished(Answer::Done);
         }
         let chunk = &self.chunks[self.locate(cursor)];
@@ -295,10 +307,10 @@ impl Tables {
             .linked()
             .map(|(_, entry)| entry)
             .skip_while(|entry| entry.key < cursor)
-            .take_while(|entry| entry.key < end);
+            .take_while(|entry| entry.key <= end);
         let mut handles = in_range.filter_map(|entry| Some((entry.key, self.handles[entry.handle?])));
         match (handles.find(|(_, handle)| !handle.deleted), chunk.next) {
-            (Some((key, handle)), _) => Outcome::Pair(Task { key: key + 1, ..task }, key, handle.value),
+            (Some((key, handle)), _) => Outcome::Pair(task.past(key), key, handle.value),
             (None, Some(next)) => MovedOn(Task {
                 key: self.chunks[next].min,
                 ..task
@@ -318,7 +330,8 @@ impl Tables {
                 if min <= task.key {
                     return Finished(Answer::Done);
                 }
-                self.fill(task, self.locate(min - 1), min.min(task.argument))
+                let last = min - 1;
+                self.fill(task, self.locate(last), last.min(task.argument))
             }
         }
     }
@@ -332,12 +345,12 @@ impl Tables {
         }
     }
 
-    /// The chunk is held, and its linked entries from the lower end on and below a key are on the stack.
-    fn fill(&self, task: Task, chunk: ChunkNo, below: u64) -> Outcome {
+    /// The chunk is held, and its linked entries from the lower end to a last key, both counted, are on the stack.
+    fn fill(&self, task: Task, chunk: ChunkNo, last: u64) -> Outcome {
         let in_range = self.chunks[chunk]
             .linked()
             .skip_while(|(_, entry)| entry.key < task.key)
-            .take_while(|(_, entry)| entry.key < below);
+            .take_while(|(_, entry)| entry.key <= last);
         MovedOn(Task {
             chunk: Some(chunk),
             stack: in_range.map(|(number, _)| number).collect(),

@@ -1,12 +1,13 @@
 //! Compares the proved calls, through the C boundary, with the second implementation: every report and every word of every table
-//! after every call, on random runs from fresh, on damaged tables, on damaged stacks and on damaged indexes. `compare [SEED [CALLS]]`:
-//! CALLS of each kind, of the archive that is linked or of the program that KAMRDUCH_LEND names.
+//! after every call, on random runs from fresh, on damaged tables, on damaged stacks, on damaged indexes and on odd ends of scans.
+//! `compare [SEED [CALLS]]`: CALLS of each kind, of the last a quarter, of the archive that is linked or of the program that
+//! KAMRDUCH_LEND names.
 use compare::damage::{any_call, damage, gentle, place};
 use compare::indexes::{self, has_retired, located, locating_call, of_retired, stood, to_locate, STOOD};
 use compare::runs::{filling, habit, next_call, odd_call, run_keys};
 use compare::stacks::{change, scan_down, WAYS};
 use compare::states::{amid_rebalances, scans_down};
-use compare::{model_call, Call, Chance, Host};
+use compare::{ends, model_call, Call, Chance, Host};
 use model::words::{blank, Words, INDEX, INDEX_WORDS, LENGTHS, NONE, TASK_ROWS};
 use model::{Report, Tables, ENTRIES, TASKS};
 
@@ -21,6 +22,7 @@ struct Met {
     former: [[u64; 2]; 2],
     /// calls that located, by how the index stood to their key
     located: [u64; STOOD.len()],
+    ends: ends::Met,
 }
 
 impl Met {
@@ -46,6 +48,7 @@ impl Met {
         for (what, [value, absent]) in ["puts", "removes"].iter().zip(self.former) {
             println!("  {what}: {value} answered a value, {absent} absent");
         }
+        self.ends.print();
         for (how, count) in STOOD.iter().zip(self.located) {
             println!("  located through an index that was {how}: {count}");
         }
@@ -139,6 +142,7 @@ impl Pair {
         }
         self.left_alone(seed, call, report);
         met.count(work, told);
+        met.ends.count(&self.before, call, told);
         if let Some(key) = located(&self.before, call, report) {
             met.located[stood(&self.before, key)] += 1;
         }
@@ -317,6 +321,20 @@ fn indexed(host: &mut Host, seed: u64, calls: u64, reached: &[Words], met: &mut 
     ways
 }
 
+/// Ends of scans, such as a start is given and such as none is: a state with tasks that scan so; then up to eight calls. How many states
+/// there were, and how many had the shape.
+fn ended(host: &mut Host, seed: u64, calls: u64, reached: &[Words], met: &mut Met) -> (u64, u64) {
+    let mut r = Chance::new(seed ^ 0xe2d5);
+    let (mut states, mut shaped) = (0, 0);
+    while met.calls < calls {
+        let mut w = reached[r.below(reached.len())].clone();
+        ends::to_scan(&mut r, &mut w);
+        states += 1;
+        shaped += (calls_on(host, seed, &mut r, &w, ends::scanning_call, met) > 0) as u64;
+    }
+    (states, shaped)
+}
+
 fn main() {
     let mut args = std::env::args().skip(1).map(|a| a.parse::<u64>().expect("compare [SEED [CALLS]]"));
     let (seed, calls) = (args.next().unwrap_or(1), args.next().unwrap_or(220_000));
@@ -338,4 +356,8 @@ fn main() {
     for (what, (states, shaped)) in indexes::WAYS.iter().chain(&["as it was"]).zip(ways) {
         println!("  {what}: {states} states, {shaped} with the shape");
     }
+    let mut met = Met::default();
+    let (states, shaped) = ended(&mut host, seed, calls / 4, &reached, &mut met);
+    met.print("odd ends of scans");
+    println!("  {states} states, {shaped} with the shape");
 }

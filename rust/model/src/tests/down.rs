@@ -2,7 +2,7 @@
 use super::*;
 
 /// Steps a task to its end, with every report.
-fn reports(tables: &mut Tables, n: u64) -> Vec<Report> {
+pub fn reports(tables: &mut Tables, n: u64) -> Vec<Report> {
     let mut told = Vec::new();
     while !matches!(told.last(), Some(Report::Finished(_) | Report::Refused(_))) {
         told.push(tables.step(n));
@@ -11,7 +11,7 @@ fn reports(tables: &mut Tables, n: u64) -> Vec<Report> {
 }
 
 /// A whole downward scan by task 7.
-fn down(tables: &mut Tables, from: u64, to: u64) -> Vec<Report> {
+pub fn down(tables: &mut Tables, from: u64, to: u64) -> Vec<Report> {
     start(tables, 7, SCAN_DOWN, from, to, 0);
     reports(tables, 7)
 }
@@ -22,7 +22,7 @@ fn filled(keys: impl Iterator<Item = u64>) -> impl Iterator<Item = Report> {
 }
 
 /// Keys 1 to 26 in three chunks: chunk 1 has 1 to 9, chunk 0 has 10 to 18, chunk 3 has 19 to 26.
-fn three_chunks() -> Tables {
+pub fn three_chunks() -> Tables {
     let mut tables = with_keys(17);
     rebalance_all(&mut tables, 1);
     for key in 18..=26 {
@@ -46,8 +46,8 @@ fn a_scan_down_gives_every_key_of_three_chunks() {
 }
 
 #[test]
-fn the_lower_end_counts_and_the_upper_does_not() {
-    let mut told: Vec<Report> = filled((19..22).rev()).collect();
+fn both_ends_count() {
+    let mut told: Vec<Report> = filled((19..=22).rev()).collect();
     told.extend(filled((10..=18).rev()));
     told.extend(filled((5..=9).rev()));
     told.push(DONE);
@@ -57,7 +57,7 @@ fn the_lower_end_counts_and_the_upper_does_not() {
 #[test]
 fn a_minimum_at_the_lower_end_ends_the_scan() {
     for lower in [10, 11] {
-        let mut told: Vec<Report> = filled((19..22).rev()).collect();
+        let mut told: Vec<Report> = filled((19..=22).rev()).collect();
         told.extend(filled((lower..=18).rev()));
         told.push(DONE);
         assert_eq!(down(&mut three_chunks(), lower, 22), told);
@@ -66,15 +66,19 @@ fn a_minimum_at_the_lower_end_ends_the_scan() {
 
 #[test]
 fn the_first_fill_is_of_the_chunk_that_has_the_upper_end() {
-    let mut told = vec![Report::MovedOn];
-    told.extend(filled((12..=18).rev()));
+    let mut told: Vec<Report> = filled((12..=18).rev()).collect();
     told.push(DONE);
-    assert_eq!(down(&mut three_chunks(), 12, 19), told);
+    assert_eq!(down(&mut three_chunks(), 12, 18), told);
+    let above = filled(std::iter::once(19));
+    assert_eq!(down(&mut three_chunks(), 12, 19), above.chain(told).collect::<Vec<_>>());
 }
 
 #[test]
-fn an_empty_range_takes_two_steps() {
-    for key in [0, 5, 10, 18, 19, 20, 26, 27, u64::MAX] {
+fn a_range_of_one_key() {
+    for key in [1, 5, 9, 10, 18, 19, 20, 26] {
+        assert_eq!(down(&mut three_chunks(), key, key), [Report::MovedOn, Report::Pair(key, key * 10), DONE]);
+    }
+    for key in [0, 27, u64::MAX] {
         assert_eq!(down(&mut three_chunks(), key, key), [Report::MovedOn, DONE]);
     }
     assert_eq!(down(&mut Tables::fresh(), 0, u64::MAX), [Report::MovedOn, DONE]);
@@ -101,8 +105,9 @@ fn the_ends_of_the_keys() {
         assert_eq!(whole(&mut tables, 0, PUT, key, key, 0).1, ABSENT);
     }
     let pair = |key| Report::Pair(key, key);
-    assert_eq!(down(&mut tables, 0, u64::MAX), [Report::MovedOn, pair(u64::MAX - 1), pair(1), pair(0), DONE]);
-    assert_eq!(down(&mut tables, 1, u64::MAX - 1), [Report::MovedOn, pair(1), DONE]);
+    let told = [u64::MAX, u64::MAX - 1, 1, 0].map(pair);
+    assert_eq!(down(&mut tables, 0, u64::MAX), [&[Report::MovedOn], &told[..], &[DONE]].concat());
+    assert_eq!(down(&mut tables, 1, u64::MAX - 1), [Report::MovedOn, pair(u64::MAX - 1), pair(1), DONE]);
 }
 
 #[test]
@@ -115,9 +120,9 @@ fn a_step_writes_its_own_task_alone() {
     assert_eq!((started.chunk, started.stack), (None, Stack::default()));
     steps(&mut tables, 7, 1);
     let held = tables.tasks[7].unwrap();
-    assert_eq!((held.key, held.argument, held.chunk, held.stack.entries()), (3, 21, Some(3), &[0, 1][..]));
-    assert_eq!(tables.step(7), Report::Pair(20, 200));
-    assert_eq!(tables.tasks[7].map(|task| task.stack), Some([0].into_iter().collect()));
+    assert_eq!((held.key, held.argument, held.chunk, held.stack.entries()), (3, 21, Some(3), &[0, 1, 2][..]));
+    assert_eq!(tables.step(7), Report::Pair(21, 210));
+    assert_eq!(tables.tasks[7].map(|task| task.stack), Some([0, 1].into_iter().collect()));
     reports(&mut tables, 7);
     assert_eq!((tables.tasks, tables.chunks, tables.handles), ([None; TASKS], before.chunks, before.handles));
 }
@@ -142,8 +147,8 @@ fn what_changes_after_a_fill() {
 #[test]
 fn a_retired_chunk_is_gone_through_and_release_waits() {
     let mut tables = three_chunks();
-    start(&mut tables, 7, SCAN_DOWN, 0, 19, 0);
-    steps(&mut tables, 7, 2);
+    start(&mut tables, 7, SCAN_DOWN, 0, 18, 0);
+    steps(&mut tables, 7, 1);
     assert_eq!(tables.step(7), Report::Pair(18, 180));
     assert_eq!(tables.begin(10), Report::MovedOn);
     assert_eq!(tables.step(7), Report::Pair(17, 170));
@@ -214,6 +219,7 @@ fn two_scans_down_at_once() {
     start(&mut tables, 0, SCAN_DOWN, 0, u64::MAX, 0);
     start(&mut tables, 7, SCAN_DOWN, 20, 22, 0);
     steps(&mut tables, 0, 1);
-    assert_eq!(reports(&mut tables, 7), [Report::MovedOn, Report::Pair(21, 210), Report::Pair(20, 200), DONE]);
+    let pairs = filled((20..=22).rev());
+    assert_eq!(reports(&mut tables, 7), pairs.chain([DONE]).collect::<Vec<_>>());
     assert_eq!(reports(&mut tables, 0).len(), 26 + 2 + 1);
 }

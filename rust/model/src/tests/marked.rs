@@ -137,6 +137,7 @@ fn m12_scans() {
     let mut tables = after_m2();
     assert_eq!(whole(&mut tables, 0, SCAN, 0, 10, 0), (1, Report::Pair(5, 50)));
     assert_eq!(tables.step(0), DONE);
-    assert_eq!(whole(&mut tables, 0, SCAN, 5, 5, 0), (1, DONE));
+    assert_eq!(whole(&mut tables, 0, SCAN, 5, 5, 0), (1, Report::Pair(5, 50)));
+    assert_eq!(tables.step(0), DONE);
     assert_eq!(tables.start(0, SCAN, 6, 5, 0), Report::Refused(4));
 }

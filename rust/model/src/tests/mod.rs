@@ -1,6 +1,7 @@
 //! Helpers of the tests, and the tests by kind.
 mod answers;
 mod down;
+mod ends;
 mod former;
 mod index;
 mod marked;

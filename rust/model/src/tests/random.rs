@@ -19,15 +19,26 @@ impl Random {
     }
 }
 
+/// One of so many keys, half of them from 0 on and half from the largest down.
+fn any_key(random: &mut Random, keys: u64) -> u64 {
+    let number = random.below(keys);
+    let from_end = number / 2;
+    if number % 2 == 0 {
+        from_end
+    } else {
+        u64::MAX - from_end
+    }
+}
+
 /// One random call; few keys make the tasks meet, and many with rare rebalances fill the chunks.
 pub fn any_call(tables: &mut Tables, random: &mut Random, keys: u64) -> Report {
-    let key = random.below(keys);
+    let key = any_key(random, keys);
     match random.below(40) {
         0 if keys < 100 || random.below(10) == 0 => tables.begin(key),
         1..=3 => tables.rebalance(),
         4..=11 => {
             let (n, operation) = (random.below(9), random.below(10));
-            let (argument, function) = (random.below(keys), random.below(5));
+            let (argument, function) = (any_key(random, keys), random.below(5));
             tables.start(n, operation, key, argument, function)
         }
         _ => tables.step(random.below(8)),

@@ -200,15 +200,3 @@ fn a_scan_goes_through_the_chunks() {
     let expected: Vec<_> = (10..100).filter(|&key| key != 50).map(|key| (key, key)).collect();
     assert_eq!(pairs, expected);
 }
-
-#[test]
-fn the_last_key_can_be_scanned_only_to_below_the_upper_end() {
-    let mut tables = Tables::fresh();
-    for key in [u64::MAX - 1, u64::MAX] {
-        assert_eq!(put(&mut tables, 0, key), ABSENT);
-    }
-    assert_eq!(whole(&mut tables, 0, SCAN, 0, u64::MAX, 0), (1, Report::Pair(u64::MAX - 1, u64::MAX - 1)));
-    assert_eq!(tables.tasks[0].map(|task| task.key), Some(u64::MAX));
-    assert_eq!(tables.step(0), DONE);
-    assert_eq!(whole(&mut tables, 0, GET, u64::MAX, 0, 0), (4, value(u64::MAX)));
-}

@@ -19,12 +19,12 @@ impl Watched {
             to: task.argument,
             falls: task.operation == Operation::ScanDown,
             given: Vec::new(),
-            throughout: map.range(task.key..task.argument).map(|(&key, _)| key).collect(),
+            throughout: map.range(task.key..=task.argument).map(|(&key, _)| key).collect(),
         }
     }
 
     fn give(&mut self, key: u64) {
-        assert!(self.from <= key && key < self.to);
+        assert!(self.from <= key && key <= self.to);
         assert!(self.given.last().is_none_or(|&last| if self.falls { key < last } else { last < key }));
         self.given.push(key);
     }
@@ -50,8 +50,27 @@ fn watch(watched: &mut Option<Watched>, report: Report, map: &BTreeMap<u64, u64>
     }
 }
 
-/// A random run in which every scan is watched; how many ended upward and downward.
-fn watched_run(seed: u64, ended: &mut [u64; 2]) {
+/// How many scans, upward and downward, had equal ends, gave the largest key, and ended.
+#[derive(Default, Debug)]
+struct Seen {
+    equal: [u64; 2],
+    top: [u64; 2],
+    ended: [u64; 2],
+}
+
+impl Seen {
+    /// One start or step of a scan.
+    fn count(&mut self, was: Option<Task>, is: Option<Task>, report: Report) {
+        let Some(task) = was.or(is) else { return };
+        let way = (task.operation == Operation::ScanDown) as usize;
+        self.equal[way] += (was.is_none() && task.key == task.argument) as u64;
+        self.top[way] += matches!(report, Report::Pair(u64::MAX, _)) as u64;
+        self.ended[way] += is.is_none() as u64;
+    }
+}
+
+/// A random run in which every scan is watched.
+fn watched_run(seed: u64, seen: &mut Seen) {
     let mut random = Random(seed.wrapping_mul(0x9E37_79B9_7F4A_7C15));
     let keys = [3, 40, 700][seed as usize % 3];
     let mut tables = Tables::fresh();
@@ -61,13 +80,14 @@ fn watched_run(seed: u64, ended: &mut [u64; 2]) {
         let report = any_call(&mut tables, &mut random, keys);
         let map = map(&tables);
         for n in 0..TASKS {
-            match (before[n], tables.tasks[n]) {
-                (None, Some(task)) if task.operation.is_scan() => watched[n] = Some(Watched::of(task, &map)),
-                (Some(was), is) if Some(was) != is && was.operation.is_scan() => {
-                    ended[(was.operation == Operation::ScanDown) as usize] += is.is_none() as u64;
-                    watch(&mut watched[n], report, &map);
-                }
-                _ => {}
+            let (was, is) = (before[n], tables.tasks[n]);
+            if was == is || !was.or(is).is_some_and(|task| task.operation.is_scan()) {
+                continue;
+            }
+            seen.count(was, is, report);
+            match (was, is) {
+                (None, Some(task)) => watched[n] = Some(Watched::of(task, &map)),
+                _ => watch(&mut watched[n], report, &map),
             }
         }
         watched
@@ -79,7 +99,8 @@ fn watched_run(seed: u64, ended: &mut [u64; 2]) {
 
 #[test]
 fn scans_keep_their_rules_amid_random_calls() {
-    let mut ended = [0; 2];
-    (1..=18).for_each(|seed| watched_run(seed, &mut ended));
-    assert!(ended.iter().all(|&count| count > 300), "{ended:?}");
+    let mut seen = Seen::default();
+    (1..=18).for_each(|seed| watched_run(seed, &mut seen));
+    assert!(seen.ended.iter().all(|&count| count > 300), "{seen:?}");
+    assert!(seen.equal.iter().chain(&seen.top).all(|&count| count > 30), "{seen:?}");
 }

@@ -24,13 +24,13 @@ fn to_the_top(count: usize) -> Tables {
     t
 }
 
-/// A call that locates the largest key, or for a scan the one below it, and its tables.
+/// A call that locates the largest key, and its tables.
 fn locating(stage: u64, count: usize) -> (Tables, Call) {
     let mut t = to_the_top(count);
     let told = match stage {
         1 => t.start(0, 1, TOP, 0, 0),
         16 => t.start(0, 6, TOP, 0, 0),
-        22 => t.start(0, 7, TOP - 1, TOP, 0),
+        22 => t.start(0, 7, TOP, TOP, 0),
         _ => return (t, Call::Begin(TOP)),
     };
     assert_eq!(told, Report::MovedOn);
@@ -121,7 +121,7 @@ fn whole(counts: &[Figures]) {
 }
 
 pub fn calls_page(section: &Section) {
-    println!("\n## Locating\n\nCalls that locate a key: stages 1, 16 and 22, and begin; a fill at stage 23 locates as they do. The key is the largest of all, present in the last chunk of the chain; chunks of 16 keys, the last of 18; the other tasks are idle. The plain walk is the same code on the same tables with no row in the index: such tables have the shape, no row is at or under the key, and so the walk goes from the first live chunk along the whole chain. The index has the rows of all live chunks. The columns are of one run, in turn. Beyond the shape is a call's figure less that of the shape alone (a start refused by 1) on the same tables. The scan's cursor is the key below the largest, and its step goes on through the 18 entries of the chunk found. Rust walks the chain with any index; its column is of the tables with all rows.\n");
+    println!("\n## Locating\n\nCalls that locate a key: stages 1, 16 and 22, and begin; a fill at stage 23 locates as they do. The key is the largest of all, present in the last chunk of the chain; chunks of 16 keys, the last of 18; the other tasks are idle. The plain walk is the same code on the same tables with no row in the index: such tables have the shape, no row is at or under the key, and so the walk goes from the first live chunk along the whole chain. The index has the rows of all live chunks. The columns are of one run, in turn. Beyond the shape is a call's figure less that of the shape alone (a start refused by 1) on the same tables. The scan is of that key alone, and its step goes on through the 18 entries of the chunk found to the pair. Rust walks the chain with any index; its column is of the tables with all rows.\n");
     calls_table("ns", &section.times);
     let Some(counts) = section.counts.iter().copied().collect::<Option<Vec<Figures>>>() else {
         return;
