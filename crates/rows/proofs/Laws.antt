@@ -1,13 +1,13 @@
 -- What is read at a row, and that writing row i is `set` of row i: one law over the row's width serves all tables.
 use Prim.Native.Nat.{ℕ, zero, suc, ◌+◌, ◌*◌, ◌-◌, ◌≤◌, ◌<◌}
-use mathlib.Core.Path.{◌≡◌, refl, sym, ap, ◌∙◌, subst}
+use mathlib.Core.Path.{◌≡◌, refl, sym, ap, ◌∙◌}
 use mathlib.Core.List.{List, [], ◌∷◌, ◌++◌, append_assoc}
 use mathlib.Core.Logic.{◌≢◌, ◌⊎◌, inl, inr, ⊎_elim}
-use native.Mathlib.Nat.{add-zero, zero-add, add-suc, suc-add, add_assoc, le_of_suc-le-suc, not-suc-le-zero, suc-mul, mul-le-mul_right}
+use native.Mathlib.Nat.{add-zero, zero-add, suc-add, le_of_suc-le-suc, not-suc-le-zero, suc-mul, mul-le-mul_right}
 use native.Mathlib.Numerals.{add-one}
 use native.Mathlib.Omega.{arith}
 use native.Mathlib.Decide.{dec_lt}
-use lib.ListN.{length, get_or, set, take, drop, length-take, get_or-append, get_or-eq_default}
+use lib.ListN.{length, get_or, set, take, drop, get_or-append, get_or-eq_default}
 use lib.Seq.{sets, sets-eq, get_or-append-add, get_or-take, get_or-drop, length-take-le, set_out}
 use Rattle.rows.specs.Rows.{rows_from}
 

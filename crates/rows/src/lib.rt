@@ -1,5 +1,7 @@
 // The leaves: a row of a lent table is read and written as a struct.
 // Code above reads and writes rows through them; a handle's value and its mark are words of their own.
+#![tactic(auto)]
+
 ghost use Rattle.std.specs.Prelude.{◌≡◌, ℕ, ◌+◌, ◌*◌, ◌^◌, ◌<◌, ◌≤◌, [], length, set, get_or};
 ghost use Rattle.rules.specs.Words.{no_entry};
 ghost use Rattle.rules.specs.Tables.{idle_task, empty_chunk, empty_entry, empty_row, row, chunk_at, entry_at};
