@@ -8,7 +8,7 @@ ghost use Rattle.copying.specs.Copied.{copy_of, Stands, Fills, Filled};
 use rules::{ChunkNo, Entry, EntryNo, NONE, Sizes};
 
 // Where a walk along a chunk's list stands: the entry, and how many steps are left.
-#[derive(Drop)]
+#[derive(Clone, Copy)]
 pub struct Place {
     pub entry: EntryNo,
     pub left: usize,

@@ -7,7 +7,7 @@ ghost use Rattle.records.specs.Records.{record_at, freshened, stored, marked, wi
 use rules::HandleNo;
 
 // A handle's record: its value, and its mark, 1 where it is deleted.
-#[derive(Drop)]
+#[derive(Clone, Copy)]
 pub struct Record {
     pub value: u64,
     pub deleted: u64,

@@ -12,17 +12,17 @@ pub const NONE: u64 = 18446744073709551615;
 pub const LARGEST: u64 = 18446744073709551615;
 
 // Numbers of chunks, of entries within a chunk, and of handles.
-#[derive(Drop)]
+#[derive(Clone, Copy)]
 pub struct ChunkNo(pub u64);
 
-#[derive(Drop)]
+#[derive(Clone, Copy)]
 pub struct EntryNo(pub u64);
 
-#[derive(Drop)]
+#[derive(Clone, Copy)]
 pub struct HandleNo(pub u64);
 
 // How many there are of each. A table has as many rows as these say.
-#[derive(Drop)]
+#[derive(Clone, Copy)]
 pub struct Sizes {
     pub tasks: usize,
     pub chunks: usize,
@@ -31,7 +31,7 @@ pub struct Sizes {
 }
 
 // A row of the entries' table: chunk c's entry e is row c * entries + e.
-#[derive(Drop)]
+#[derive(Clone, Copy)]
 pub struct Entry {
     pub key: u64,
     pub handle: HandleNo,
@@ -39,7 +39,7 @@ pub struct Entry {
 }
 
 // A row of the chunks' table.
-#[derive(Drop)]
+#[derive(Clone, Copy)]
 pub struct Chunk {
     pub status: u64,
     pub frozen: u64,
@@ -50,7 +50,7 @@ pub struct Chunk {
 }
 
 // A row of the tasks' table. A scan keeps its cursor as the key and its upper end as the argument.
-#[derive(Drop)]
+#[derive(Clone, Copy)]
 pub struct Task {
     pub stage: u64,
     pub operation: u64,
@@ -66,7 +66,7 @@ pub struct Task {
 }
 
 // The directory's own row: its first live chunk, the rebalance under way, and how many rows of the index are in use.
-#[derive(Drop)]
+#[derive(Clone, Copy)]
 pub struct Directory {
     pub first: ChunkNo,
     pub stage: u64,
@@ -77,14 +77,14 @@ pub struct Directory {
 }
 
 // A row of the index (document 02, E3): a chunk and its minimum key.
-#[derive(Drop)]
+#[derive(Clone, Copy)]
 pub struct IndexRow {
     pub min: u64,
     pub chunk: ChunkNo,
 }
 
 // What a stage changes outside its task's own row.
-#[derive(Drop)]
+#[derive(Clone, Copy)]
 pub enum Write {
     Nothing,
     // a slot of the chunk, for the key
@@ -100,7 +100,7 @@ pub enum Write {
 }
 
 // What a call answers: a task's step or start, or one of the rebalance.
-#[derive(Drop)]
+#[derive(Clone, Copy)]
 pub enum Report {
     Moved,
     // restarted, and why
@@ -122,7 +122,7 @@ pub enum Report {
 }
 
 // A stage's whole outcome: the task's own row afterwards, what changes elsewhere, and the report.
-#[derive(Drop)]
+#[derive(Clone, Copy)]
 pub struct Decision {
     pub task: Task,
     pub write: Write,

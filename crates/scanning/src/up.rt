@@ -16,7 +16,7 @@ use rules::{
 };
 
 // The chunk that has the cursor, and the entry of its first present key in range, or none.
-#[derive(Drop)]
+#[derive(Clone, Copy)]
 pub struct Seen {
     pub chunk: ChunkNo,
     pub entry: EntryNo,

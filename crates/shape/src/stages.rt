@@ -2,7 +2,7 @@
 ghost use Rattle.shape.specs.Parts.{Listed};
 
 // What a stage holds of each: 0 never, 1 always, 2 perhaps; 3, of an old handle: always, and it is deleted.
-#[derive(Drop)]
+#[derive(Clone, Copy)]
 pub struct Holds {
     pub chunk: u8,
     pub entry: u8,

@@ -11,7 +11,7 @@ ghost use Rattle.turn.specs.Turns.{writes};
 use rules::{Report, Sizes, Task};
 
 // What a stage leaves of its task, and the report.
-#[derive(Drop)]
+#[derive(Clone, Copy)]
 pub struct Turned {
     pub task: Task,
     pub report: Report,
