@@ -17,7 +17,7 @@ use Rattle.rules.specs.declared.Sizes.{Sizes}
 use Rattle.rules.specs.declared.Entry.{Entry}
 use Rattle.rules.specs.declared.ChunkNo.{ChunkNo}
 use Rattle.rules.specs.declared.EntryNo.{EntryNo}
-use Rattle.rules.specs.Words.{pick, ◌or◌, NONE, entry_no, no_entry}
+use Rattle.rules.specs.Words.{pick, NONE, entry_no, no_entry}
 use Rattle.rules.specs.Tables.{Tables, empty_entry, entry_at, row, with_entries, put_entry}
 use Rattle.rules.specs.Rebalance.{fill, clears}
 use Rattle.rules.specs.Shape.{numbers}
