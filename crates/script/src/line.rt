@@ -20,7 +20,7 @@ pub enum Asked {
 }
 
 // What is kept of the bytes taken so far.
-#[derive(Drop)]
+#[derive(Clone, Copy)]
 pub struct Line {
     // the last byte belongs to a word
     pub inside: bool,
