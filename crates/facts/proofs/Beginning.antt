@@ -13,7 +13,7 @@ use Rattle.rules.specs.declared.Directory.{Directory}
 use Rattle.rules.specs.declared.Task.{Task}
 use Rattle.rules.specs.declared.Chunk.{Chunk}
 use Rattle.rules.specs.declared.ChunkNo.{ChunkNo}
-use Rattle.rules.specs.Words.{NONE, chunk_no, no_chunk, unused, live, new, idle, to_drain, to_copy}
+use Rattle.rules.specs.Words.{NONE, chunk_no, no_chunk, unused, live, idle, to_drain, to_copy}
 use Rattle.rules.specs.Tables.{Tables, chunk_at, chunk, task}
 use Rattle.rules.specs.Walks.{locate, InRange}
 use Rattle.rules.specs.Rebalance.{Outcome, unused_count, published_on, frozen_of, begins, drains, with_rebalance}

@@ -1,5 +1,5 @@
 -- Live chunks cover all keys, by the facts.
-use Prim.Native.Nat.{ℕ, ◌≤◌, ◌<◌}
+use Prim.Native.Nat.{ℕ, ◌+◌, ◌≤◌, ◌<◌}
 use mathlib.Core.Path.{◌≡◌, sym, ap, ◌∙◌}
 use mathlib.Core.Logic.{◌↔◌}
 use mathlib.Core.List.{List, [], ◌∷◌, Memᴰ}
@@ -23,7 +23,7 @@ use Rattle.facts.proofs.Going.{located}
 links-ascend : (z : Sizes) (es : List Entry) (c : ChunkNo) (used k : ℕ) (e : EntryNo) (l : List EntryNo) → Links z es c used k e l → Ascends (λ e. (entry_at z es c e).key) k l
 unfolding Links Ascends
 links-ascend z es c used k e [] h = tt
-links-ascend z es c used k e (x ∷ l) h = (h.2, links-ascend z es c used _ _ l h.3)
+links-ascend z es c used k e (x ∷ l) h = (h.2, links-ascend z es c used ((entry_at z es c x).key + 1) _ l h.3)
 
 module _ (z : Sizes) (lim : Limited z) (s : Tables) (kept : Kept z s) where
   c : Chained z s.directory.first s.chunks

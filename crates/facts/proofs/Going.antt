@@ -19,7 +19,7 @@ use Rattle.rules.specs.declared.Decision.{Decision}
 use Rattle.rules.specs.declared.Report.{Report}
 use Rattle.rules.specs.declared.Write.{Write}
 use Rattle.rules.specs.declared.Write.TheVariants as write
-use Rattle.rules.specs.Words.{◌and◌, NONE, live, new}
+use Rattle.rules.specs.Words.{◌and◌, NONE, live}
 use Rattle.rules.specs.Tables.{Tables, idle_task, with_own, chunk, entry}
 use Rattle.rules.specs.Walks.{locate, find, InRange}
 use Rattle.rules.specs.Stages

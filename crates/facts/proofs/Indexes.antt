@@ -1,5 +1,5 @@
 -- Every call keeps the index's rows those of the live chunks, but for between swap in and index; so they are of every reached table.
-use Prim.Native.Nat.{ℕ, zero, suc, ◌≤◌, ◌<◌}
+use Prim.Native.Nat.{ℕ, zero, suc, ◌+◌, ◌≤◌, ◌<◌}
 use mathlib.Core.Path.{◌≡◌, refl, sym, ap, ◌∙◌}
 use mathlib.Core.Logic.{◌⊎◌, inl, inr, ⊎_elim, ◌≢◌}
 use mathlib.Core.List.Memᴰ
@@ -56,7 +56,7 @@ rows_same s x (c ∷ l) same = rw (same c (Memᴰ.head refl), rows_same s x l (�
 ascends_same : (f g : ChunkNo → ℕ) (k : ℕ) (l : List ChunkNo) → Every (λ c. g c ≡ f c) l → Ascends f k l → Ascends g k l
 unfolding Ascends
 ascends_same f g k [] same h = h
-ascends_same f g k (c ∷ l) same h = rw (same c (Memᴰ.head refl)) (h.0, ascends_same f g _ l (λ y m. same y (Memᴰ.tail m)) h.1)
+ascends_same f g k (c ∷ l) same h = rw (same c (Memᴰ.head refl)) (h.0, ascends_same f g (f c + 1) l (λ y m. same y (Memᴰ.tail m)) h.1)
 
 module _ (z : Sizes) (lim : Limited z) (s : Tables) (kept : Kept z s) where
   -- ---- the live chunks

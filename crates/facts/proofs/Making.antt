@@ -1,7 +1,7 @@
 -- A new chunk made of a list of entries: the facts of the tables then, and the keys of its list.
 use Prim.Native.Nat.{ℕ, ◌+◌, ◌≤◌, ◌<◌}
 use mathlib.Core.Path.{◌≡◌, refl, sym, ap, ◌∙◌}
-use mathlib.Core.Logic.{◌⊎◌, inr, ⊎_elim, ◌≢◌}
+use mathlib.Core.Logic.{inr, ⊎_elim, ◌≢◌}
 use mathlib.Core.Bool.{true}
 use mathlib.Core.List.{List}
 use native.Mathlib.Nat.{le_trans, le_refl, zero-add}

@@ -5,14 +5,13 @@ use mathlib.Core.Logic.{◌⊎◌, ⊎_map, ◌≢◌}
 use mathlib.Core.Bool.{Bool, true, false}
 use mathlib.Core.List.{List, [], ◌∷◌}
 use native.Mathlib.Nat.{le_trans}
-use native.Mathlib.Omega.{arith}
 use lib.Dec.{eqb, ltb}
-use borrow.Author.Tests.{lt-ltb, ltb-true, eqb-true, eqb-false}
+use borrow.Author.Tests.{lt-ltb, ltb-true, eqb-true}
 use Rattle.rules.specs.declared.Sizes.{Sizes}
 use Rattle.rules.specs.declared.Entry.{Entry}
 use Rattle.rules.specs.declared.ChunkNo.{ChunkNo}
 use Rattle.rules.specs.declared.EntryNo.{EntryNo}
-use Rattle.rules.specs.Words.{◌or◌, NONE}
+use Rattle.rules.specs.Words.{NONE}
 use Rattle.rules.specs.Shape.{numbers, held_as}
 use Rattle.laws.proofs.Tests.{picked, or_cases}
 use Rattle.rules.specs.declared.Task.{Task}

@@ -1,7 +1,7 @@
 -- A chunk that is not live, written anew with its entries, leaves the facts of all others.
 use Prim.Native.Nat.{ℕ, ◌*◌, ◌<◌}
 use mathlib.Core.Path.{◌≡◌, refl, ap, ◌∙◌}
-use mathlib.Core.Logic.{◌⊎◌, ⊎_elim, ⊎_map, ◌≢◌}
+use mathlib.Core.Logic.{⊎_elim, ⊎_map, ◌≢◌}
 use mathlib.Core.List.Memᴰ
 use mathlib.Core.List.{List, [], ◌∷◌, Memᴰ}
 use native.Mathlib.Nat.{le_trans, le_refl}

@@ -2,7 +2,7 @@
 use Prim.Native.Nat.{ℕ, zero, suc, ◌≤◌, ◌<◌}
 use mathlib.Core.Path.{◌≡◌, refl, sym, ap, ◌∙◌}
 use mathlib.Core.Logic.{◌⊎◌, inl, inr, ⊎_elim, ◌≢◌}
-use mathlib.Core.Bool.{Bool, true, false, false≢true}
+use mathlib.Core.Bool.{Bool, false, false≢true}
 use mathlib.Core.List.{List, [], ◌∷◌}
 use native.Mathlib.Nat.{le_refl}
 use native.Mathlib.Decide.{ℕ_discrete}
@@ -17,7 +17,7 @@ use Rattle.rules.specs.declared.Chunk.{Chunk}
 use Rattle.rules.specs.declared.Entry.{Entry}
 use Rattle.rules.specs.declared.ChunkNo.{ChunkNo}
 use Rattle.rules.specs.declared.EntryNo.{EntryNo}
-use Rattle.rules.specs.Words.{NONE, chunk_no, unused, live, new, to_release}
+use Rattle.rules.specs.Words.{NONE, chunk_no, unused, live, to_release}
 use Rattle.rules.specs.Tables.{Tables, idle_task, empty_chunk, empty_entry, with_directory, chunk_at, entry_at, chunk, task, put_chunk, with_chunks, with_entries}
 use Rattle.rules.specs.Rebalance.{Outcome, held_chunk, clears, releases, at_rest}
 use Rattle.laws.proofs.Tests.{picked, by-test}

@@ -33,7 +33,7 @@ use Rattle.facts.proofs.SwapIn.{swap-by}
 use Rattle.facts.proofs.Copying.{copy-by}
 use Rattle.facts.proofs.Tasks.{start-by, step_by, step-applied}
 use Rattle.facts.proofs.Reaching.{call_by, reached-kept, run-reached}
-use Rattle.handles.proofs.Naming.{Passes, put}
+use Rattle.handles.proofs.Naming.{Passes}
 use Rattle.handles.proofs.Passing.{NamesRight, decides-pass}
 use Rattle.handles.proofs.Owning.{put-tasks}
 

@@ -9,7 +9,7 @@ use Rattle.rules.specs.declared.Sizes.{Sizes}
 use Rattle.rules.specs.declared.ChunkNo.{ChunkNo}
 use Rattle.rules.specs.declared.EntryNo.{EntryNo}
 use Rattle.rules.specs.Words.{NONE}
-use Rattle.rules.specs.Tables.{Tables, idle_task, empty_entry, chunk, entry_at, entry, row}
+use Rattle.rules.specs.Tables.{Tables, idle_task, empty_entry, entry_at, entry, row}
 use Rattle.rules.specs.Calls.{fresh}
 use Rattle.statements.specs.Sound.{Limited, Live, InUse}
 use Rattle.facts.specs.Facts.{Kept}

@@ -15,7 +15,7 @@ use Rattle.rules.specs.declared.Directory.{Directory}
 use Rattle.rules.specs.declared.Task.{Task}
 use Rattle.rules.specs.declared.ChunkNo.{ChunkNo}
 use Rattle.rules.specs.declared.EntryNo.{EntryNo}
-use Rattle.rules.specs.Words.{pick, ◌and◌, ◌or◌, live, retired, scan_down, idle, to_drain, to_copy, to_swap, to_index, to_release}
+use Rattle.rules.specs.Words.{pick, live, retired, scan_down, idle, to_drain, to_copy, to_swap, to_index, to_release}
 use Rattle.rules.specs.Tables.{Tables, empty_chunk, with_directory, chunk_at, chunk, put_chunk, entry_at, entry, value, mark, task}
 use Rattle.rules.specs.Walks.{linked, InRange}
 use Rattle.rules.specs.Stages

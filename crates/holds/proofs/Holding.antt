@@ -2,7 +2,7 @@
 use Prim.Native.Nat.{ℕ, zero, suc, ◌≤◌, ◌<◌}
 use mathlib.Core.Path.{◌≡◌, refl, sym, ap, ◌∙◌}
 use mathlib.Core.Logic.{◌⊎◌, inl, inr, ⊎_elim, ◌≢◌}
-use mathlib.Core.Bool.{Bool, true, false, false≢true}
+use mathlib.Core.Bool.{Bool, false, false≢true}
 use mathlib.Core.List.{List, [], ◌∷◌}
 use native.Mathlib.Decide.{ℕ_discrete}
 use native.Mathlib.Omega.{arith}
@@ -15,11 +15,11 @@ use Rattle.rules.specs.declared.Task.{Task}
 use Rattle.rules.specs.declared.Chunk.{Chunk}
 use Rattle.rules.specs.declared.ChunkNo.{ChunkNo}
 use Rattle.rules.specs.declared.Decision.{Decision}
-use Rattle.rules.specs.Words.{◌and◌, chunk_no, unused, live, new, retired, idle, to_drain, to_copy, to_swap, to_index, to_release}
+use Rattle.rules.specs.Words.{◌and◌, chunk_no, unused, live, retired, idle, to_drain, to_copy, to_swap, to_index, to_release}
 use Rattle.rules.specs.Tables.{Tables, idle_task, empty_chunk, chunk_at, chunk, task, put_task, with_directory}
 use Rattle.rules.specs.Walks.{locate}
 use Rattle.rules.specs.Stages
-use Rattle.rules.specs.Rebalance.{Outcome, unused_count, published_on, held_chunk, frozen_of, at, begins, drains, copies, swaps_in, indexes, releases, rebalance_does, with_next_chunk, at_rest}
+use Rattle.rules.specs.Rebalance.{Outcome, unused_count, published_on, held_chunk, frozen_of, begins, drains, copies, swaps_in, indexes, releases, rebalance_does, with_next_chunk, at_rest}
 use Rattle.rules.specs.Calls.{Call, fresh, started, starts, steps, does}
 use Rattle.rules.specs.Calls.Call.{start, step, begin, rebalance}
 use Rattle.laws.proofs.Tests.{picked}

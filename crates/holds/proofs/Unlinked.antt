@@ -28,7 +28,7 @@ use Rattle.rules.specs.Tables.{Tables, empty_chunk, empty_entry, chunk_at, chunk
 use Rattle.rules.specs.Walks.{locate, linked, list_from}
 use Rattle.rules.specs.Stages
 use Rattle.rules.specs.Rebalance.{Outcome, unused_count, unused_from, published_on, held_chunk, naming_from, frozen_of, makes, at, begins, copies, swaps_in, releases, rebalance_does, at_rest}
-use Rattle.rules.specs.Calls.{Call, fresh, started, starts, steps, does}
+use Rattle.rules.specs.Calls.{Call, fresh, starts, steps, does}
 use Rattle.rules.specs.Calls.Call.{start, step, begin, rebalance}
 use Rattle.laws.proofs.Tests.{picked, by-test}
 use Rattle.views.proofs.Rows.{chunk-either, entry-put}

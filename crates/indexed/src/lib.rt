@@ -1,4 +1,6 @@
 // The index's part of the shape: its rows ascend, and each has its chunk's minimum key (document 02, E3).
+#![tactic(auto)]
+
 ghost use Rattle.std.specs.Prelude.{◌≡◌, ◌+◌, ◌*◌, ◌≤◌, length};
 ghost use Rattle.rules.specs.Shape.{is_empty_row, names_chunk, index_right};
 ghost use Rattle.rows.specs.Rows.{chunk_rows, charted};

@@ -1,5 +1,7 @@
 // The chunks' part of the shape: each row, its slots and its list, and the chain.
 // A row's own words are tested all; what reads on comes after the tests that let it.
+#![tactic(auto)]
+
 ghost use Rattle.std.specs.Prelude.{true, ◌≡◌, ◌+◌, ◌*◌, ◌≤◌, length, leb};
 ghost use Rattle.rules.specs.Words.{chunk_no};
 ghost use Rattle.rules.specs.Shape.{numbers, is_empty_entry, is_empty_chunk, each, slots_of, slot_right, chunk_right, ascends_from, chain_count, chained};

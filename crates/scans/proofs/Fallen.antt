@@ -1,7 +1,7 @@
 -- A downward scan is judged pair by pair, by what holds of it at every moment.
-use Prim.Native.Nat.{ℕ, ◌-◌, ◌≤◌, ◌<◌}
+use Prim.Native.Nat.{ℕ, ◌≤◌, ◌<◌}
 use mathlib.Core.Path.{◌≡◌, refl, sym, ap, ◌∙◌}
-use mathlib.Core.Logic.{◌⊎◌, ⊎_elim, ◌≢◌}
+use mathlib.Core.Logic.{⊎_elim}
 use mathlib.Core.Bool.{true, false, false≢true}
 use mathlib.Core.List.Memᴰ
 use mathlib.Core.List.{[], Memᴰ}
@@ -14,7 +14,7 @@ use Rattle.rules.specs.declared.Decision.{Decision}
 use Rattle.rules.specs.declared.Report.TheVariants as report
 use Rattle.rules.specs.Words.{NONE, largest, scan, scan_down}
 use Rattle.rules.specs.Told.{is_answer}
-use Rattle.rules.specs.Tables.{stack, chunk, entry}
+use Rattle.rules.specs.Tables.{chunk, entry}
 use Rattle.rules.specs.Walks.{undeleted}
 use Rattle.rules.specs.Stages
 use Rattle.rules.specs.Calls.{Call}

@@ -19,10 +19,10 @@ use Rattle.rules.specs.declared.Write.TheVariants as write
 use Rattle.rules.specs.declared.Report.TheVariants as report
 use Rattle.rules.specs.Words.{unused, live, retired, scan_down}
 use Rattle.rules.specs.Told.{Told, tells, told}
-use Rattle.rules.specs.Tables.{Tables, task, stack, chunk, entry, value}
+use Rattle.rules.specs.Tables.{Tables, stack, chunk, entry, value}
 use Rattle.rules.specs.Walks.{linked, undeleted, InRange, Present}
 use Rattle.rules.specs.Stages
-use Rattle.rules.specs.Rebalance.{Outcome, gives}
+use Rattle.rules.specs.Rebalance.{Outcome}
 use Rattle.rules.specs.Calls.{Call, started, calls}
 use Rattle.laws.specs.Counts.{Every}
 use Rattle.laws.proofs.Tests.{by-test}

@@ -15,7 +15,7 @@ use Rattle.rules.specs.declared.EntryNo.{EntryNo}
 use Rattle.rules.specs.declared.HandleNo.{HandleNo}
 use Rattle.rules.specs.declared.Decision.{Decision}
 use Rattle.rules.specs.Words.{idle, to_drain, to_copy, to_swap, to_index, to_release}
-use Rattle.rules.specs.Tables.{Tables, chunk, entry_at, entry, task, with_directory}
+use Rattle.rules.specs.Tables.{Tables, entry_at, entry, task, with_directory}
 use Rattle.rules.specs.Stages
 use Rattle.rules.specs.Rebalance.{Outcome, unused_count, published_on, held_chunk, begins, drains, swaps_in, indexes, releases, rebalance_does, at_rest}
 use Rattle.rules.specs.Calls.{Call, starts, steps, does}

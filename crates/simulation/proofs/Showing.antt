@@ -14,7 +14,6 @@ use Rattle.rules.specs.declared.Sizes.{Sizes}
 use Rattle.rules.specs.declared.ChunkNo.{ChunkNo}
 use Rattle.rules.specs.declared.EntryNo.{EntryNo}
 use Rattle.rules.specs.declared.HandleNo.{HandleNo}
-use Rattle.rules.specs.Words.{◌and◌}
 use Rattle.rules.specs.Tables.{Tables, chunk, entry}
 use Rattle.rules.specs.Walks.{locate, find, linked, undeleted, Present}
 use Rattle.laws.proofs.Tests.{picked, both, and_left, and_right}

@@ -15,7 +15,7 @@ use Rattle.rules.specs.Words.{◌and◌, ◌or◌, uses_function, is_scan}
 use Rattle.rules.specs.Tables.{Tables, empty_entry, row, task, with_tasks}
 use Rattle.rules.specs.Walks.{Present}
 use Rattle.rules.specs.Rebalance.{Outcome, begins}
-use Rattle.rules.specs.Calls.{Call, fresh, started, starts, steps, does, calls}
+use Rattle.rules.specs.Calls.{Call, fresh, starts, steps, does, calls}
 use Rattle.rules.specs.Calls.Call.{start, step, begin, rebalance}
 use Rattle.rules.specs.Map.{Pair, pair_key, Ascends, lookup, sequential}
 use Rattle.map.proofs.Sequential.{sequential-ascends}

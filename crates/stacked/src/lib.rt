@@ -1,4 +1,6 @@
 // The stacks' part of the shape: linked entries of the held chunk, their keys rising, and then none (document 02, E1).
+#![tactic(auto)]
+
 ghost use Rattle.std.specs.Prelude.{◌≡◌, ◌*◌, ◌<◌, eqb, ltb, drop};
 ghost use Rattle.rules.specs.Words.{◌and◌};
 ghost use Rattle.rules.specs.Shape.{each, all_none, stack_right};

@@ -20,7 +20,7 @@ use Rattle.rules.specs.declared.Entry.{Entry}
 use Rattle.rules.specs.declared.ChunkNo.{ChunkNo}
 use Rattle.rules.specs.Words.{pick, ◌or◌, NONE, chunk_no, entry_no, unused, live, new, to_swap, to_index, handle_no}
 use Rattle.rules.specs.Tables.{Tables, idle_task, empty_entry, chunk, entry}
-use Rattle.rules.specs.Walks.{locate, find, linked, undeleted, named_in, held_in, free}
+use Rattle.rules.specs.Walks.{locate, find, linked, named_in, held_in, free}
 use Rattle.rules.specs.Map.{Pair, pair}
 use Rattle.map.proofs.Laws.{lookup-member}
 use Rattle.laws.proofs.Tests.{picked, by-test, or_cases}

@@ -102,7 +102,7 @@ module _ (z : Sizes) (cs : List Chunk) where
   chain-from k c x [] h m = absurd (Memᴰ.not-nil m)
   chain-from k c x (y ∷ l) h m =
       ⊎_elim (λ (p : x ≡ y). rw p (l, k, (refl, h.1, h.2, h.3, h.4), le_refl _, λ v n. n))
-      (λ n. let on = chain-from _ _ x l h.4 n in (on.0, on.1, on.2, longer (length (x ∷ on.0)) (length l) on.3, λ v o. Memᴰ.tail (on.4 v o)))
+      (λ n. let on = chain-from ((chunk_at cs y).min + 1) _ x l h.4 n in (on.0, on.1, on.2, longer (length (x ∷ on.0)) (length l) on.3, λ v o. Memᴰ.tail (on.4 v o)))
       (Memᴰ.cases_cons m)
     where
       longer : (a b : ℕ) → a ≤ b → a ≤ suc b

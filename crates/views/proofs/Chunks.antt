@@ -26,23 +26,23 @@ module _ (z : Sizes) (cs : List Chunk) where
   pub chain-live : (k : ℕ) (c : ChunkNo) (l : List ChunkNo) → Chain z cs k c l → Every (λ x. (x.0 < z.chunks) × ((chunk_at cs x).status ≡ live)) l
   unfolding Chain
   chain-live k c [] h = λ x m. absurd (Memᴰ.not-nil m)
-  chain-live k c (y ∷ l) h = λ x m. ⊎_elim (λ p. rw p (h.1, h.2)) (λ n. chain-live _ _ l h.4 x n) (Memᴰ.cases_cons m)
+  chain-live k c (y ∷ l) h = λ x m. ⊎_elim (λ p. rw p (h.1, h.2)) (λ n. chain-live ((chunk_at cs y).min + 1) _ l h.4 x n) (Memᴰ.cases_cons m)
 
   pub chain-above : (k : ℕ) (c : ChunkNo) (l : List ChunkNo) → Chain z cs k c l → Every (λ x. k ≤ (chunk_at cs x).min) l
   unfolding Chain
   chain-above k c [] h = λ x m. absurd (Memᴰ.not-nil m)
-  chain-above k c (y ∷ l) h = λ x m. ⊎_elim (λ p. rw p h.3) (λ n. omega (arith, h.3, chain-above _ _ l h.4 x n)) (Memᴰ.cases_cons m)
+  chain-above k c (y ∷ l) h = λ x m. ⊎_elim (λ p. rw p h.3) (λ n. omega (arith, h.3, chain-above ((chunk_at cs y).min + 1) _ l h.4 x n)) (Memᴰ.cases_cons m)
 
   pub chain-ascends : (k : ℕ) (c : ChunkNo) (l : List ChunkNo) → Chain z cs k c l → Ascends (λ x. (chunk_at cs x).min) k l
   unfolding Chain Ascends
   chain-ascends k c [] h = tt
-  chain-ascends k c (y ∷ l) h = (h.3, chain-ascends _ _ l h.4)
+  chain-ascends k c (y ∷ l) h = (h.3, chain-ascends ((chunk_at cs y).min + 1) _ l h.4)
 
   -- minimum keys ascend, so no chunk stands twice
   pub chain-apart : (k : ℕ) (c : ChunkNo) (l : List ChunkNo) → Chain z cs k c l → Apart (λ x. x.0) l
   unfolding Chain Apart
   chain-apart k c [] h = tt
-  chain-apart k c (y ∷ l) h = (λ x m q. above x m (ap chunk_no q), chain-apart _ _ l h.4)
+  chain-apart k c (y ∷ l) h = (λ x m q. above x m (ap chunk_no q), chain-apart ((chunk_at cs y).min + 1) _ l h.4)
     where
       above : (x : ChunkNo) → Memᴰ x l → y ≡ x → ⊥
       above x m q = omega (arith, chain-above _ _ l h.4 x m, ap (λ (c : ChunkNo). (chunk_at cs c).min) q)
@@ -51,7 +51,7 @@ module _ (z : Sizes) (cs : List Chunk) where
   pub chain_next : (k : ℕ) (c x : ChunkNo) (l : List ChunkNo) → Chain z cs k c l → Memᴰ x l → ((chunk_at cs x).next.0 ≡ NONE) ⊎ Memᴰ (chunk_at cs x).next l
   unfolding Chain
   chain_next k c x [] h m = absurd (Memᴰ.not-nil m)
-  chain_next k c x (y ∷ l) h m = ⊎_elim (λ (p : x ≡ y). rw p (first l refl)) (λ n. ⊎_map (λ e. e) (λ o. Memᴰ.tail o) (chain_next _ _ x l h.4 n)) (Memᴰ.cases_cons m)
+  chain_next k c x (y ∷ l) h m = ⊎_elim (λ (p : x ≡ y). rw p (first l refl)) (λ n. ⊎_map (λ e. e) (λ o. Memᴰ.tail o) (chain_next ((chunk_at cs y).min + 1) _ x l h.4 n)) (Memᴰ.cases_cons m)
     where
       first : (r : List ChunkNo) → r ≡ l → ((chunk_at cs y).next.0 ≡ NONE) ⊎ Memᴰ (chunk_at cs y).next (y ∷ l)
       first [] e = inl (rw (← e) at h.4)
@@ -103,7 +103,7 @@ module _ (z : Sizes) (cs : List Chunk) where
     pub chain-rises : (k : ℕ) (c x : ChunkNo) (l : List ChunkNo) → Chain z cs k c l → Memᴰ x l → (chunk_at cs x).next.0 < z.chunks → (chunk_at cs x).min < (chunk_at cs (chunk_at cs x).next).min
     unfolding Chain
     chain-rises k c x [] h m = absurd (Memᴰ.not-nil m)
-    chain-rises k c x (y ∷ l) h m = λ i. ⊎_elim (λ (p : x ≡ y). rw p (first l refl (rw p at i))) (λ n. chain-rises _ _ x l h.4 n i) (Memᴰ.cases_cons m)
+    chain-rises k c x (y ∷ l) h m = λ i. ⊎_elim (λ (p : x ≡ y). rw p (first l refl (rw p at i))) (λ n. chain-rises ((chunk_at cs y).min + 1) _ x l h.4 n i) (Memᴰ.cases_cons m)
       where
         first : (r : List ChunkNo) → r ≡ l → (chunk_at cs y).next.0 < z.chunks → (chunk_at cs y).min < (chunk_at cs (chunk_at cs y).next).min
         first [] e i = absurd (none (rw (← e) at h.4))
@@ -119,7 +119,7 @@ module _ (z : Sizes) (cs : List Chunk) where
     pub chain-one : (lo k : ℕ) (c x y : ChunkNo) (l : List ChunkNo) → Chain z cs lo c l → Memᴰ x l → Memᴰ y l → InRange z cs x k → InRange z cs y k → x ≡ y
     unfolding Chain
     chain-one lo k c x y [] h m n p q = absurd (Memᴰ.not-nil m)
-    chain-one lo k c x y (w ∷ l) h m n p q = split (Memᴰ.cases_cons m) (Memᴰ.cases_cons n) (λ m' n'. chain-one _ k _ x y l h.4 m' n' p q)
+    chain-one lo k c x y (w ∷ l) h m n p q = split (Memᴰ.cases_cons m) (Memᴰ.cases_cons n) (λ m' n'. chain-one ((chunk_at cs w).min + 1) k _ x y l h.4 m' n' p q)
       where
         -- a later one's range begins past the first one's
         past : (v : ChunkNo) (r : List ChunkNo) → r ≡ l → Memᴰ v r → InRange z cs w k → InRange z cs v k → ⊥
@@ -145,7 +145,7 @@ unfolding Chain
 chain-frame z cs cs' k c [] h same = h
 chain-frame z cs cs' k c (x ∷ l) h same =
     let here = same x (Memᴰ.head refl) in
-    (h.0, h.1, here.0 ∙ h.2, rw here.1 h.3, rw (here.1, here.2) (chain-frame z cs cs' _ _ l h.4 (λ y m. same y (Memᴰ.tail m))))
+    (h.0, h.1, here.0 ∙ h.2, rw here.1 h.3, rw (here.1, here.2) (chain-frame z cs cs' ((chunk_at cs x).min + 1) _ l h.4 (λ y m. same y (Memᴰ.tail m))))
 
 -- a chain whose first minimum key is at least k ascends from k on
 pub chain-raise : (z : Sizes) (cs : List Chunk) (j k : ℕ) (c : ChunkNo) (l : List ChunkNo) → Chain z cs j c l → (c.0 < z.chunks → k ≤ (chunk_at cs c).min) → Chain z cs k c l

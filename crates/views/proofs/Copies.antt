@@ -17,7 +17,7 @@ use Rattle.rules.specs.declared.Sizes.{Sizes}
 use Rattle.rules.specs.declared.Entry.{Entry}
 use Rattle.rules.specs.declared.ChunkNo.{ChunkNo}
 use Rattle.rules.specs.declared.EntryNo.{EntryNo}
-use Rattle.rules.specs.Words.{pick, ◌or◌, NONE, entry_no, no_entry}
+use Rattle.rules.specs.Words.{pick, NONE, entry_no, no_entry}
 use Rattle.rules.specs.Tables.{Tables, empty_entry, entry_at, row, with_entries, put_entry}
 use Rattle.rules.specs.Rebalance.{fill, clears}
 use Rattle.rules.specs.Shape.{numbers}
@@ -124,7 +124,7 @@ module _ (z : Sizes) (c : ChunkNo) where
     unfolding Links up_from Ascends
     filled-links used k n [] es le small len r = refl
     filled-links used k n (x ∷ l) es le small len r =
-        (rw (ne_eqb (suc (length l)) 0 (omega arith)), omega arith, rw (filled-first n x l es (le_trans le small) len) r.0, rw (filled-first n x l es (le_trans le small) len) (links-on used (x.key + 1) _ (up_from (n + 1) (length l)) (filled_on n x l es) (filled-links used _ (n + 1) l _ (omega arith) small (length-set es _ _ ∙ len) r.1)))
+        (rw (ne_eqb (suc (length l)) 0 (omega arith)), omega arith, rw (filled-first n x l es (le_trans le small) len) r.0, rw (filled-first n x l es (le_trans le small) len) (links-on used (x.key + 1) _ (up_from (n + 1) (length l)) (filled_on n x l es) (filled-links used (x.key + 1) (n + 1) l _ (omega arith) small (length-set es _ _ ∙ len) r.1)))
 
     -- what holds of each of the list holds of each row filled
     pub filled-rows : (P : Entry → Type 0) (n : ℕ) (l es : List Entry) → n + length l ≤ z.entries → length es ≡ z.chunks * z.entries →

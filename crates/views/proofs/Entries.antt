@@ -30,18 +30,18 @@ module _ (z : Sizes) (es : List Entry) (c : ChunkNo) (used : ℕ) where
   pub links-below : (k : ℕ) (e : EntryNo) (l : List EntryNo) → Links z es c used k e l → Every (λ x. x.0 < used) l
   unfolding Links
   links-below k e [] h = λ x m. absurd (Memᴰ.not-nil m)
-  links-below k e (y ∷ l) h = λ x m. ⊎_elim (λ p. rw p h.1) (λ n. links-below _ _ l h.3 x n) (Memᴰ.cases_cons m)
+  links-below k e (y ∷ l) h = λ x m. ⊎_elim (λ p. rw p h.1) (λ n. links-below ((entry_at z es c y).key + 1) _ l h.3 x n) (Memᴰ.cases_cons m)
 
   pub links-above : (k : ℕ) (e : EntryNo) (l : List EntryNo) → Links z es c used k e l → Every (λ x. k ≤ (entry_at z es c x).key) l
   unfolding Links
   links-above k e [] h = λ x m. absurd (Memᴰ.not-nil m)
-  links-above k e (y ∷ l) h = λ x m. ⊎_elim (λ p. rw p h.2) (λ n. omega (arith, h.2, links-above _ _ l h.3 x n)) (Memᴰ.cases_cons m)
+  links-above k e (y ∷ l) h = λ x m. ⊎_elim (λ p. rw p h.2) (λ n. omega (arith, h.2, links-above ((entry_at z es c y).key + 1) _ l h.3 x n)) (Memᴰ.cases_cons m)
 
   -- keys ascend, so no entry stands twice
   pub links-apart : (k : ℕ) (e : EntryNo) (l : List EntryNo) → Links z es c used k e l → Apart (λ x. x.0) l
   unfolding Links Apart
   links-apart k e [] h = tt
-  links-apart k e (y ∷ l) h = (λ x m q. above x m (ap entry_no q), links-apart _ _ l h.3)
+  links-apart k e (y ∷ l) h = (λ x m q. above x m (ap entry_no q), links-apart ((entry_at z es c y).key + 1) _ l h.3)
     where
       above : (x : EntryNo) → Memᴰ x l → y ≡ x → ⊥
       above x m q = omega (arith, links-above _ _ l h.3 x m, ap (λ (e : EntryNo). (entry_at z es c e).key) q)
@@ -144,7 +144,7 @@ unfolding Links
 links-frame z es es' c used used' k e [] b h same = h
 links-frame z es es' c used used' k e (x ∷ l) b h same =
     let here = same x (Memᴰ.head refl) in
-    (h.0, le_trans h.1 b, rw here.0 h.2, rw (here.0, here.1) (links-frame z es es' c used used' _ _ l b h.3 (λ y m. same y (Memᴰ.tail m))))
+    (h.0, le_trans h.1 b, rw here.0 h.2, rw (here.0, here.1) (links-frame z es es' c used used' ((entry_at z es c x).key + 1) _ l b h.3 (λ y m. same y (Memᴰ.tail m))))
 
 -- an entry put in where its key belongs, by the two rows that change
 module _ (z : Sizes) (es es' : List Entry) (c : ChunkNo) (used : ℕ) (small : used ≤ z.entries) (sized : z.entries ≤ NONE)
@@ -255,7 +255,7 @@ module _ (z : Sizes) (es : List Entry) (c : ChunkNo) (e : EntryNo) (k : ℕ) whe
 pub links-one : (z : Sizes) (es : List Entry) (c : ChunkNo) (used k : ℕ) (e x y : EntryNo) (l : List EntryNo) → Links z es c used k e l → Memᴰ x l → Memᴰ y l → (entry_at z es c x).key ≡ (entry_at z es c y).key → x ≡ y
 unfolding Links
 links-one z es c used k e x y [] h m n q = absurd (Memᴰ.not-nil m)
-links-one z es c used k e x y (v ∷ l) h m n q = go (Memᴰ.cases_cons m) (Memᴰ.cases_cons n) (λ m' n'. links-one z es c used _ _ x y l h.3 m' n' q)
+links-one z es c used k e x y (v ∷ l) h m n q = go (Memᴰ.cases_cons m) (Memᴰ.cases_cons n) (λ m' n'. links-one z es c used ((entry_at z es c v).key + 1) _ x y l h.3 m' n' q)
   where
     -- a later one has a larger key
     later : (u w : EntryNo) → u ≡ v → Memᴰ w l → (entry_at z es c u).key ≡ (entry_at z es c w).key → ⊥

@@ -49,7 +49,7 @@ pub take_below : (k n : ℕ) (l : List Entry) → n < length l → Ascends entry
 unfolding Ascends
 take_below k n [] b r = absurd (not-suc-le-zero b)
 take_below k zero (x ∷ l) b r = λ y m. absurd (Memᴰ.not-nil m)
-take_below k (suc n) (x ∷ l) b r = λ y m. ⊎_elim (λ (p : y ≡ x). rw p (first (ascends-above entry_key _ l r.1 _ (get_or-in n l (le_of_suc-le-suc b))))) (λ o. take_below _ n l (le_of_suc-le-suc b) r.1 y o) (Memᴰ.cases_cons m)
+take_below k (suc n) (x ∷ l) b r = λ y m. ⊎_elim (λ (p : y ≡ x). rw p (first (ascends-above entry_key _ l r.1 _ (get_or-in n l (le_of_suc-le-suc b))))) (λ o. take_below (entry_key x + 1) n l (le_of_suc-le-suc b) r.1 y o) (Memᴰ.cases_cons m)
   where
     first : x.key + 1 ≤ (get_or l n empty_entry).key → x.key < (get_or l n empty_entry).key
     first p = omega arith

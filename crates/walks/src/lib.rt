@@ -1,4 +1,6 @@
 // The walks: along the live chunks, along a chunk's list, up a stack, and through the rows of a table.
+#![tactic(auto)]
+
 ghost use Rattle.std.specs.Prelude.{◌≡◌, Bool, ℕ, ◌+◌, ◌*◌, ◌<◌, ◌≤◌, [], length, drop, get_or};
 ghost use Rattle.rules.specs.Words.{no_entry};
 ghost use Rattle.rules.specs.Tables.{entry_at};

@@ -1,0 +1,16 @@
+use mathlib.Core.Path.{sym, ◌∙◌}
+use native.Mathlib.Omega.{arith}
+use Rattle.walks.proofs.Laws.{place-spent, place_out, place_here, place-next}
+use Rattle.walks.proofs.place.Goals as goal
+
+pub returns-then-z-at : goal.returns-then-z-at
+returns-then-z-at c = sym (c.loop-left.invariant ∙ place_out _ _ _ _ _ _ _ c.if-z-at.true)
+
+pub returns-then-k-x : goal.returns-then-k-x
+returns-then-k-x c = sym (c.loop-left.invariant ∙ place_here _ _ _ _ _ _ _ (omega arith) _ c.entry_at-x.ensures c.if-k-x.true)
+
+pub loop-left-preserved : goal.loop-left-preserved
+loop-left-preserved c = c.loop-left.invariant ∙ place-next _ _ _ _ _ _ _ (omega arith) (omega arith) _ c.entry_at-x.ensures c.if-k-x.false
+
+pub returns : goal.returns
+returns c = sym (c.loop-left.invariant ∙ place-spent _ _ _ _ _ _ _ c.loop-left-test.false)
