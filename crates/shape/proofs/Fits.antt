@@ -1,10 +1,9 @@
 -- The rebalance asked by the count of the unused chunks.
 use Prim.Native.Nat.{ℕ}
 use mathlib.Core.Path.{◌≡◌, refl, sym, ap, ◌∙◌}
-use mathlib.Core.Bool.{Bool, true, false, not}
+use mathlib.Core.Bool.{Bool, true, false}
 use mathlib.Core.List.{List, [], ◌∷◌}
 use lib.Dec.{leb}
-use borrow.Author.Tests.{not-true, not-false}
 use Rattle.rules.specs.declared.Sizes.{Sizes}
 use Rattle.rules.specs.declared.Directory.{Directory}
 use Rattle.rules.specs.declared.Chunk.{Chunk}
@@ -22,8 +21,8 @@ unused-is (x ∷ l) = rw (unused-is l)
 
 -- the rebalance's stage asked first, by the count of the unused
 module _ (z : Sizes) (d : Directory) (cs : List ℕ) (n : ℕ) (fits : Bool) (asked : StageFits z d (leb 2 n) fits) (count : n ≡ count_of unused (chunk_rows z.chunks cs)) where
-  pub stage-fails : not fits ≡ true → rebalance_fits z (headed z d cs) ≡ false
-  stage-fails h = rw (not-true fits h) at (asked cs (ap (leb 2) (sym (count ∙ unused-is _))))
+  pub stage-fails : fits ≡ false → rebalance_fits z (headed z d cs) ≡ false
+  stage-fails h = rw h at (asked cs (ap (leb 2) (sym (count ∙ unused-is _))))
 
-  pub stage-holds : not fits ≡ false → rebalance_fits z (headed z d cs) ≡ each (chunk_fits z (bare z) d) 0 (chunk_rows z.chunks cs)
-  stage-holds h = rw (not-false fits h) at (asked cs (ap (leb 2) (sym (count ∙ unused-is _))))
+  pub stage-holds : fits ≡ true → rebalance_fits z (headed z d cs) ≡ each (chunk_fits z (bare z) d) 0 (chunk_rows z.chunks cs)
+  stage-holds h = rw h at (asked cs (ap (leb 2) (sym (count ∙ unused-is _))))

@@ -1,4 +1,6 @@
 // The shape that every call tests first (document 01, "Shape, checked by every call first").
+#![tactic(auto)]
+
 mod rebalance;
 mod stages;
 mod tasks;

@@ -1,4 +1,6 @@
 // Which handle is free (document 02, E4): one pass over the used entries and the tasks strikes off what they name, then the lowest handle left is picked.
+#![tactic(auto)]
+
 ghost use Rattle.std.specs.Prelude.{◌≡◌, ◌*◌, ◌-◌, ◌≤◌, ◌<◌, eqb, length};
 ghost use Rattle.rules.specs.Words.{handle_no};
 ghost use Rattle.rules.specs.Walks.{named_in, held_in, free_from};
