@@ -1,4 +1,6 @@
 // What copy does with entries: it walks along the old chunk's list by those that name a handle, counts them, and writes them into a new chunk's rows.
+#![tactic(auto)]
+
 ghost use Rattle.std.specs.Prelude.{◌≡◌, ◌+◌, ◌*◌, ◌-◌, ◌<◌, ◌≤◌, length, get_or};
 ghost use Rattle.rules.specs.Tables.{empty_entry};
 ghost use Rattle.rules.specs.Rebalance.{naming_from};

@@ -1,4 +1,6 @@
 // The index's rows written (document 02, E3): those of the live chunks, and empty ones past them.
+#![tactic(auto)]
+
 ghost use Rattle.std.specs.Prelude.{◌≡◌, List, ℕ, ◌+◌, ◌*◌, ◌≤◌, length};
 ghost use Rattle.rules.specs.Rebalance.{gives, indexes};
 ghost use Rattle.rows.specs.Rows.{chunk_rows, tables};

@@ -2,7 +2,7 @@
 use Rattle.std.specs.Prelude.{ℕ, ◌*◌, ◌≤◌, ◌<◌, ◌≡◌, List, length, get_or}
 use Rattle.rules.specs.declared.Sizes.{Sizes}
 use Rattle.rules.specs.declared.Task.{Task}
-use Rattle.rules.specs.Shape.{Hold, hold, stage_list}
+use Rattle.rules.specs.Shape.{hold, stage_list}
 
 abbrev pub Tasks : Sizes → List ℕ → Type 0
 Tasks z ts = z.tasks * 11 ≤ length ts

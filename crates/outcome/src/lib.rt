@@ -1,4 +1,6 @@
 // What a stage's outcome is made of (document 01, "Stages of a task"): a task's row afterwards, and the decision.
+#![tactic(auto)]
+
 ghost use Rattle.std.specs.Prelude.{◌≡◌, Bool, List, ℕ};
 ghost use Rattle.rules.specs.declared.Write.TheVariants as write;
 ghost use Rattle.rules.specs.declared.Sizes.{Sizes};

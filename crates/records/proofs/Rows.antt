@@ -1,10 +1,10 @@
 -- A row of the records read and written, as rows of the tables' values and marks.
 use mathlib.Core.Path.{◌≡◌, refl, sym, ap, ◌∙◌}
-use Prim.Native.Nat.{ℕ, zero, suc, ◌≤◌}
+use Prim.Native.Nat.{ℕ, zero, suc}
 use mathlib.Core.List.{List, [], ◌∷◌, map}
-use lib.ListN.{length, get_or, set, get_or-map, get_or-eq_default}
+use lib.ListN.{get_or, set, get_or-map}
 use Rattle.rules.specs.declared.HandleNo.{HandleNo}
-use Rattle.rules.specs.Tables.{Tables, value, mark, put_value, put_mark, with_values, with_marks}
+use Rattle.rules.specs.Tables.{Tables, value, put_value, put_mark, with_values, with_marks}
 use Rattle.records.specs.declared.Record.{Record}
 use Rattle.records.specs.Records.{no_record, record_at, freshened, stored, marked, with_value, with_deleted, value_of, deleted_of, with_records}
 
@@ -23,15 +23,6 @@ map-kept f (x ∷ xs) (suc n) d y e = ap (λ zs. f x ∷ zs) (map-kept f xs n d 
 -- the value of the handle's record is the tables' value of the handle
 gives : (rs : List Record) (h : HandleNo) (r : ℕ) → r ≡ (record_at rs h).value → (s : Tables) → r ≡ value (with_records s rs) h
 gives rs h r e s = e ∙ sym (get_or-map value_of rs h.0 no_record)
-
--- past the last record the value is 0
-pub gives_none : (rs : List Record) (h : HandleNo) → length rs ≤ h.0 → 0 ≡ (record_at rs h).value
-gives_none rs h l = sym (ap value_of (get_or-eq_default rs no_record l))
-
--- what is read as the handle's record is the tables' value and mark of the handle
-pub reads : (rs : List Record) (h : HandleNo) (r : Record) → r ≡ record_at rs h
-    → (r ≡ record_at rs h) × ((s : Tables) → (r.value ≡ value (with_records s rs) h) × (r.deleted ≡ mark (with_records s rs) h))
-reads rs h r e = (e, λ s. (gives rs h r.value (ap value_of e) s, ap deleted_of e ∙ sym (get_or-map deleted_of rs h.0 no_record)))
 
 -- records with the handle made fresh are the tables with the value and the mark put
 pub freshens : (rs : List Record) (h : HandleNo) (ws : List Record) → ws ≡ freshened rs h

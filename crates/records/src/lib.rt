@@ -1,5 +1,7 @@
 // The handle table, lent as records (document 01, "What the tables hold"): a handle's record read, made fresh, its value stored and its deleted mark set, which both give back the value that stood there (document 02, E2).
 // A number past the last record reads as value 0, undeleted, and changes nothing.
+#![tactic(auto)]
+
 ghost use Rattle.std.specs.Prelude.{◌≡◌};
 ghost use Rattle.rules.specs.Tables.{Tables, value, mark, put_value, put_mark};
 ghost use Rattle.records.specs.Records.{record_at, freshened, stored, marked, with_records};

@@ -1,4 +1,6 @@
 // Start: an operation put at its first stage, holding nothing.
+#![tactic(auto)]
+
 ghost use Rattle.std.specs.Prelude.{◌≡◌, List, ℕ, ◌+◌, ◌*◌, length, eqb, ltb};
 ghost use Rattle.rules.specs.declared.Sizes.{Sizes};
 ghost use Rattle.rules.specs.Words.{pick, ◌and◌, ◌or◌, get, remove, is_scan, uses_function};

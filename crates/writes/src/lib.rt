@@ -1,4 +1,6 @@
 // A step's write, done to the lent tables (document 01, "Stages of a task"): what a stage changes outside its task's own row.
+#![tactic(auto)]
+
 ghost use Rattle.std.specs.Prelude.{◌≡◌, List, ℕ};
 ghost use Rattle.rules.specs.declared.Sizes.{Sizes};
 ghost use Rattle.rules.specs.declared.Write.TheVariants as write;

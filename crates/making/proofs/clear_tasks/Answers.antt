@@ -1,0 +1,10 @@
+use mathlib.Core.Path.{◌∙◌}
+use native.Mathlib.Omega.{arith}
+use native.Mathlib.Nat.{le_refl}
+use borrow.Author.Rules.{rules}
+use Rattle.making.proofs.Filling.{stacks-empty}
+use Rattle.making.proofs.clear_tasks.Goals as goal
+
+pub returns : goal.returns
+returns c = let the-tasks = c.idle_tasks in
+    (the-tasks.ensures.0, the-tasks.ensures.1 c.args.z (le_refl _) ∙ stacks-empty c.args.z c.args.tasks.now _ c.requires c.fill.ensures)
