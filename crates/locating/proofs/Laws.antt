@@ -13,7 +13,7 @@ use Rattle.rules.specs.declared.Sizes.{Sizes}
 use Rattle.rules.specs.declared.Chunk.{Chunk}
 use Rattle.rules.specs.declared.ChunkNo.{ChunkNo}
 use Rattle.rules.specs.declared.IndexRow.{IndexRow}
-use Rattle.rules.specs.Words.{pick, ◌and◌, ◌or◌, NONE, live, retired}
+use Rattle.rules.specs.Words.{pick, ◌or◌, NONE, live, retired}
 use Rattle.rules.specs.Tables.{empty_row, chunk_at}
 use Rattle.rules.specs.Walks.{locate_from}
 use Rattle.rules.specs.Shape.{names_chunk, rows_ascend, shape}

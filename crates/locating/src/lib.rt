@@ -1,4 +1,6 @@
 // Locating by the index (document 02, E3): it leads to a live chunk, and from there the chain is walked.
+#![tactic(auto)]
+
 ghost use Rattle.std.specs.Prelude.{◌≡◌, List, ℕ, ◌+◌, ◌*◌, ◌≤◌, length};
 ghost use Rattle.rules.specs.Walks.{locate};
 ghost use Rattle.rows.specs.Rows.{chunk_rows, tables};

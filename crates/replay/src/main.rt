@@ -1,8 +1,11 @@
 // Reads a script of calls on standard input and answers each line; the calls are on one directory, fresh at first.
+#![tactic(auto)]
+
 mod tables;
 
 use rules::Directory;
 use script::{Asked, Line};
+use std::io::Read;
 
 // How many words the lent tables have; the index stands after the directory's row, a task's stack after every task's row.
 pub const DIRECTORY_LENGTH: usize = rows::DIRECTORY_WORDS + Directory::CHUNKS * rows::INDEX_WORDS;
@@ -15,7 +18,7 @@ pub const CHUNKS_LENGTH: usize = Directory::CHUNKS * rows::CHUNK_WORDS;
 pub const ENTRIES_LENGTH: usize = Directory::CHUNKS * Directory::ENTRIES * rows::ENTRY_WORDS;
 
 // Where reading and printing stand between two bytes.
-#[derive(Drop)]
+#[derive(Clone, Copy)]
 struct Place {
     line: Line,
     // how many bytes wait in the output's buffer
@@ -23,24 +26,25 @@ struct Place {
 }
 
 // Writes out what waits in the buffer.
-fn flush(out: &[u8], at: usize) -> bool {
+fn flush(rt: &impl Print, out: &[u8], at: usize) -> bool {
     if at <= out.len() {
-        return io::write_all(1, &out[..at]);
+        return rt.write_all(&out[..at]).is_ok();
     }
     false
 }
 
 // A place with room for any line: where the buffer has less than that left, it is written out first.
-pub fn room(out: &[u8], at: usize) -> usize {
+pub fn room(rt: &impl Print, out: &[u8], at: usize) -> usize {
     if at < 65024 {
         return at;
     }
-    flush(out, at);
+    flush(rt, out, at);
     0
 }
 
 // Answers one line.
 fn answer(
+    rt: &impl Print,
     asked: Asked,
     out: &mut [u8; 65536],
     at: usize,
@@ -51,7 +55,7 @@ fn answer(
     values: &mut [u64; Directory::HANDLES],
     marks: &mut [u64; Directory::HANDLES],
 ) -> usize {
-    let at = room(out, at);
+    let at = room(rt, out, at);
     match asked {
         Asked::Nothing => at,
         Asked::NoCall => script::text_line(out, at, b"no call"),
@@ -73,12 +77,15 @@ fn answer(
             let r = directory::rebalance(directory, tasks, chunks, entries, values, marks);
             script::report(out, at, r)
         }
-        Asked::Tables => tables::print(out, at, directory, tasks, chunks, entries, values, marks),
+        Asked::Tables => tables::print(
+            rt, out, at, directory, tasks, chunks, entries, values, marks,
+        ),
     }
 }
 
 // Takes each byte of a block.
 fn take(
+    rt: &impl Print,
     block: &[u8],
     from: Place,
     out: &mut [u8; 65536],
@@ -96,6 +103,7 @@ fn take(
         let b = block[i];
         if b == b'\n' {
             at = answer(
+                rt,
                 script::asks(line),
                 out,
                 at,
@@ -116,7 +124,7 @@ fn take(
 }
 
 // What is left of the line after a block, and whether there was one.
-#[derive(Drop)]
+#[derive(Clone, Copy)]
 struct Turn {
     line: Line,
     more: bool,
@@ -124,6 +132,7 @@ struct Turn {
 
 // Reads a block and answers its lines.
 fn answer_block(
+    rt: &(impl Input + Print),
     line: Line,
     input: &mut [u8],
     out: &mut [u8; 65536],
@@ -134,12 +143,12 @@ fn answer_block(
     values: &mut [u64; Directory::HANDLES],
     marks: &mut [u64; Directory::HANDLES],
 ) -> Turn {
-    let got = libc::read(0, input);
-    if got <= 0 {
+    let n = rt.reader().read(input).unwrap_or(0);
+    if n == 0 {
         return Turn { line, more: false };
     }
-    let n = io::count(got, input);
     let place = take(
+        rt,
         &input[..n],
         Place { line, at: 0 },
         out,
@@ -150,7 +159,7 @@ fn answer_block(
         values,
         marks,
     );
-    let is_written = flush(out, place.at);
+    let is_written = flush(rt, out, place.at);
     let rest = place.line;
     Turn {
         line: rest,
@@ -160,6 +169,7 @@ fn answer_block(
 
 // Reads to the end of the input; the last line may lack its newline.
 fn replay(
+    rt: &(impl Input + Print),
     input: &mut [u8; 65536],
     out: &mut [u8; 65536],
     directory: &mut [u64; DIRECTORY_LENGTH],
@@ -174,7 +184,7 @@ fn replay(
     let mut turns = u64::MAX;
     while turns > 0 {
         let next = answer_block(
-            line, input, out, directory, tasks, chunks, entries, values, marks,
+            rt, line, input, out, directory, tasks, chunks, entries, values, marks,
         );
         line = next.line;
         if !next.more {
@@ -183,6 +193,7 @@ fn replay(
         turns -= 1;
     }
     let at = answer(
+        rt,
         script::asks(line),
         out,
         0,
@@ -193,12 +204,12 @@ fn replay(
         values,
         marks,
     );
-    flush(out, at);
+    flush(rt, out, at);
 }
 
-fn main() {
-    let mut input = io::large_buffer();
-    let mut out = io::large_buffer();
+fn main(rt: HostRuntime) {
+    let mut input = [0u8; 65536];
+    let mut out = [0u8; 65536];
     let mut directory = [0u64; DIRECTORY_LENGTH];
     let mut tasks = [0u64; TASKS_LENGTH];
     let mut chunks = [0u64; CHUNKS_LENGTH];
@@ -214,6 +225,7 @@ fn main() {
         &mut marks,
     );
     replay(
+        &rt,
         &mut input,
         &mut out,
         &mut directory,

@@ -7,6 +7,7 @@ use rules::Directory;
 
 // The rows of the index that are in use.
 fn all_rows(
+    rt: &impl Print,
     out: &mut [u8; 65536],
     at: usize,
     many: u64,
@@ -17,7 +18,7 @@ fn all_rows(
     while i < Directory::CHUNKS {
         if (i as u64) < many {
             let x = rows::index_row(directory, i);
-            n = room(out, n);
+            n = room(rt, out, n);
             n = script::index_line(out, n, i as u64, x);
         }
         i += 1;
@@ -27,6 +28,7 @@ fn all_rows(
 
 // The used entries of chunk i.
 fn used_entries(
+    rt: &impl Print,
     out: &mut [u8; 65536],
     at: usize,
     i: usize,
@@ -40,7 +42,7 @@ fn used_entries(
     while e < Directory::ENTRIES {
         if (e as u64) < used {
             let x = rows::entry_row(entries, i * Directory::ENTRIES + e);
-            n = room(out, n);
+            n = room(rt, out, n);
             n = script::entry_line(out, n, i as u64, e as u64, x);
         }
         e += 1;
@@ -49,6 +51,7 @@ fn used_entries(
 }
 
 fn all_chunks(
+    rt: &impl Print,
     out: &mut [u8; 65536],
     at: usize,
     chunks: &[u64; CHUNKS_LENGTH],
@@ -59,9 +62,9 @@ fn all_chunks(
     while i < Directory::CHUNKS {
         let c = rows::chunk_row(chunks, i);
         if c.status != 0 {
-            n = room(out, n);
+            n = room(rt, out, n);
             n = script::chunk_line(out, n, i as u64, c);
-            n = used_entries(out, n, i, c.used, entries);
+            n = used_entries(rt, out, n, i, c.used, entries);
         }
         i += 1;
     }
@@ -69,6 +72,7 @@ fn all_chunks(
 }
 
 fn all_handles(
+    rt: &impl Print,
     out: &mut [u8; 65536],
     at: usize,
     values: &[u64; Directory::HANDLES],
@@ -80,7 +84,7 @@ fn all_handles(
         let value = values[h];
         let mark = marks[h];
         if is_told(value, mark) {
-            n = room(out, n);
+            n = room(rt, out, n);
             n = script::handle_line(out, n, h as u64, value, mark);
         }
         h += 1;
@@ -122,27 +126,38 @@ fn stack_entries(out: &mut [u8; 65536], at: usize, i: usize, tasks: &[u64; TASKS
 }
 
 // Task i's stack has a line where there are entries on it.
-fn stack(out: &mut [u8; 65536], at: usize, i: usize, tasks: &[u64; TASKS_LENGTH]) -> usize
+fn stack(
+    rt: &impl Print,
+    out: &mut [u8; 65536],
+    at: usize,
+    i: usize,
+    tasks: &[u64; TASKS_LENGTH],
+) -> usize
     requires { i < limits.tasks }
 {
     if stack_word(tasks, i, 0) == rules::NONE {
         return at;
     }
-    let n = room(out, at);
+    let n = room(rt, out, at);
     let n = script::stack_begins(out, n, i as u64);
     let n = stack_entries(out, n, i, tasks);
     script::stack_ends(out, n)
 }
 
-fn all_tasks(out: &mut [u8; 65536], at: usize, tasks: &[u64; TASKS_LENGTH]) -> usize {
+fn all_tasks(
+    rt: &impl Print,
+    out: &mut [u8; 65536],
+    at: usize,
+    tasks: &[u64; TASKS_LENGTH],
+) -> usize {
     let mut n = at;
     let mut i = 0;
     while i < Directory::TASKS {
         let t = rows::task_row(tasks, i);
         if t.stage != 0 {
-            n = room(out, n);
+            n = room(rt, out, n);
             n = script::task_line(out, n, i as u64, t);
-            n = stack(out, n, i, tasks);
+            n = stack(rt, out, n, i, tasks);
         }
         i += 1;
     }
@@ -150,6 +165,7 @@ fn all_tasks(out: &mut [u8; 65536], at: usize, tasks: &[u64; TASKS_LENGTH]) -> u
 }
 
 pub fn print(
+    rt: &impl Print,
     out: &mut [u8; 65536],
     at: usize,
     directory: &[u64; DIRECTORY_LENGTH],
@@ -159,11 +175,11 @@ pub fn print(
     values: &[u64; Directory::HANDLES],
     marks: &[u64; Directory::HANDLES],
 ) -> usize {
-    let n = room(out, at);
+    let n = room(rt, out, at);
     let d = rows::directory_row(directory);
     let n = script::directory_lines(out, n, d);
-    let n = all_rows(out, n, d.indexed, directory);
-    let n = all_chunks(out, n, chunks, entries);
-    let n = all_handles(out, n, values, marks);
-    all_tasks(out, n, tasks)
+    let n = all_rows(rt, out, n, d.indexed, directory);
+    let n = all_chunks(rt, out, n, chunks, entries);
+    let n = all_handles(rt, out, n, values, marks);
+    all_tasks(rt, out, n, tasks)
 }

@@ -1,20 +1,19 @@
 -- What the state answers at a line's end is what the line asks.
-use Prim.Native.Nat.{ℕ, zero, suc, ◌+◌, ◌<◌, ◌≤◌}
+use Prim.Native.Nat.{ℕ, suc, ◌<◌}
 use mathlib.Core.Path.{◌≡◌, refl, sym, ap, ◌∙◌}
 use mathlib.Core.Bool.{Bool, true, false}
 use mathlib.Core.List.{List, [], ◌∷◌, ◌++◌, append-nil}
 use native.Mathlib.Omega.{arith}
 use lib.Dec.{eqb, ltb, lit<}
 use lib.ListN.{length}
-use borrow.Author.Tests.{ltb-true}
 use Rattle.rules.specs.Words.{pick}
 use Rattle.script.specs.declared.line.Asked.{Asked}
-use Rattle.script.specs.declared.line.Asked.TheVariants.{Nothing, NoCall, Start, Step, Begin, Rebalance, Tables}
+use Rattle.script.specs.declared.line.Asked.TheVariants.{Nothing, NoCall}
 use Rattle.script.specs.declared.line.Line.{Line}
-use Rattle.script.specs.Lines.{same, before, words_from, words, comment, value, all_numbers, start, step, begin, rebalance, tables, call, asked, meaning}
+use Rattle.script.specs.Lines.{same, before, words_from, words, value, start, step, begin, rebalance, tables, call, asked, meaning}
 use Rattle.script.specs.Reading.{packed_from, packed, up_to_seven, last_from, last_five, five, Keeps, Reads, bare_of, with_one, with_five}
 use Rattle.script.proofs.Verbs.{verb, unpack, enough}
-use Rattle.script.proofs.Taking.{count_none, differ}
+use Rattle.script.proofs.Taking.{count_none}
 
 -- ---- the verbs by their numbers
 is-rebalance : (w : List ℕ) → same w rebalance ≡ eqb (packed w) 19965201660005

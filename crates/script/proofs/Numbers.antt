@@ -1,17 +1,16 @@
 -- A number's words, one byte more and one word more.
-use Prim.Native.Nat.{ℕ, zero, suc, ◌+◌, ◌*◌, ◌-◌, ◌<◌, ◌≤◌}
+use Prim.Native.Nat.{ℕ, ◌+◌, ◌*◌, ◌-◌}
 use mathlib.Core.Path.{◌≡◌, refl, sym, ap, ◌∙◌}
 use mathlib.Core.Bool.{Bool, true, false}
 use mathlib.Core.List.{List, [], ◌∷◌, ◌++◌}
 use native.Mathlib.Omega.{arith}
-use lib.Dec.{eqb, ltb, leb}
-use lib.ListN.{length, drop}
-use borrow.Author.Tests.{le-leb, lt-leb, leb-true, leb-false}
+use lib.Dec.{leb}
+use lib.ListN.{drop}
+use borrow.Author.Tests.{lt-leb, leb-false}
 use Rattle.rules.specs.Words.{pick, ◌and◌}
-use Rattle.script.specs.declared.line.Number.{Number}
 use Rattle.script.specs.Lines.{is_digit, all_digits, value_from, value, is_number, all_numbers}
-use Rattle.script.specs.Reading.{number_of, extend, last_from, last_five}
-use Rattle.script.proofs.Verbs.{and-false, and_left, and_right}
+use Rattle.script.specs.Reading.{number_of, extend, last_from}
+use Rattle.script.proofs.Verbs.{and-false, and_left}
 
 and_assoc : (a b c : Bool) → ((a and b) and c) ≡ (a and (b and c))
 and_assoc true b c = refl

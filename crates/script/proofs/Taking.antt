@@ -1,16 +1,16 @@
 -- The state takes one byte more.
-use Prim.Native.Nat.{ℕ, zero, suc, ◌+◌, ◌*◌, ◌-◌, ◌<◌, ◌≤◌}
-use mathlib.Core.Path.{◌≡◌, refl, sym, ap, ◌∙◌, subst}
+use Prim.Native.Nat.{ℕ, suc, ◌+◌}
+use mathlib.Core.Path.{◌≡◌, refl, sym, ap, ◌∙◌}
 use mathlib.Core.Bool.{Bool, true, false}
 use mathlib.Core.List.{List, [], ◌∷◌, ◌++◌, append_assoc, append-nil}
 use native.Mathlib.Omega.{arith}
-use lib.Dec.{eqb, ltb, leb}
+use lib.Dec.{ltb}
 use lib.ListN.{length, drop, length-append}
-use borrow.Author.Tests.{lt-ltb, le-ltb, ltb-true, ltb-false}
-use Rattle.rules.specs.Words.{pick, ◌and◌, ◌or◌}
+use borrow.Author.Tests.{le-ltb, ltb-true, ltb-false}
+use Rattle.rules.specs.Words.{pick, ◌and◌}
 use Rattle.script.specs.declared.line.Line.{Line}
-use Rattle.script.specs.Lines.{blank, before, words_from, words, comment, value_from, value, all_digits, is_number, all_numbers}
-use Rattle.script.specs.Reading.{spell, packed_from, packed, extend, up_to_seven, first_of, rest_of, filled, last_from, last_five, five, Keeps, Reads, line_of, ended, first_begun, first_grown, number_begun, number_grown}
+use Rattle.script.specs.Lines.{blank, before, words_from, words, value_from, value, all_digits, is_number, all_numbers}
+use Rattle.script.specs.Reading.{spell, packed_from, up_to_seven, filled, last_from, last_five, five, Keeps, Reads, line_of, ended, first_begun, first_grown, number_begun, number_grown}
 use Rattle.script.proofs.Verbs.{packed-snoc}
 use Rattle.script.proofs.Numbers.{and-true, numbers-snoc, last_snoc, extended-good, extended-value, extended-before, same-last, same-front}
 

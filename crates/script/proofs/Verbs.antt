@@ -6,7 +6,7 @@ use mathlib.Core.List.{List, [], ◌∷◌, ◌++◌, append_assoc, append-nil}
 use native.Mathlib.Omega.{arith}
 use lib.Dec.{eqb, ltb, leb}
 use lib.ListN.{length}
-use borrow.Author.Tests.{lt-ltb, le-ltb, le-leb, lt-leb, eq-eqb, ne_eqb, ltb-true, leb-true, eqb-true}
+use borrow.Author.Tests.{eq-eqb, ne_eqb, leb-true, eqb-true}
 use Rattle.rules.specs.Words.{pick, ◌and◌}
 use Rattle.script.specs.Lines.{same}
 use Rattle.script.specs.Reading.{no_word, letter, spell, packed_from, packed}

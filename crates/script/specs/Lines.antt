@@ -1,5 +1,5 @@
 -- What a line of a script asks: its words, the verb among the five that are calls, and its numbers.
-use Rattle.std.specs.Prelude.{ℕ, ◌+◌, ◌*◌, ◌-◌, Bool, true, false, List, [], ◌∷◌, ◌++◌, eqb, ltb, leb}
+use Rattle.std.specs.Prelude.{ℕ, ◌+◌, ◌*◌, ◌-◌, Bool, true, false, List, [], ◌∷◌, ◌++◌, eqb, leb}
 use Rattle.rules.specs.Words.{pick, ◌and◌, ◌or◌}
 use Rattle.script.specs.declared.line.Asked.{Asked}
 use Rattle.script.specs.declared.line.Asked.TheVariants.{Nothing, NoCall, Start, Step, Begin, Rebalance, Tables}

@@ -1,5 +1,5 @@
 -- What the state knows of the bytes of a line that it has taken.
-use Rattle.std.specs.Prelude.{ℕ, suc, ◌+◌, ◌*◌, ◌-◌, ◌≡◌, Bool, true, false, List, [], ◌∷◌, ◌++◌, eqb, ltb, leb, length, drop}
+use Rattle.std.specs.Prelude.{ℕ, ◌+◌, ◌*◌, ◌-◌, ◌≡◌, Bool, true, false, List, [], ◌∷◌, ◌++◌, eqb, ltb, leb, length, drop}
 use Rattle.rules.specs.Words.{pick, ◌and◌}
 use Rattle.script.specs.declared.line.Asked.{Asked}
 use Rattle.script.specs.declared.line.Asked.TheVariants.{NoCall, Start, Step, Begin, Rebalance, Tables}

@@ -1,4 +1,6 @@
 // A script's text: what a line asks, and the lines that answer it.
+#![tactic(auto)]
+
 mod line;
 mod print;
 mod tables;

@@ -6,7 +6,7 @@ ghost use Rattle.script.specs.Lines.{blank, meaning};
 ghost use Rattle.script.specs.Reading.{spell, extend, Reads, first_begun, first_grown, number_begun, number_grown, bare_of, with_one};
 
 // What a line asks.
-#[derive(Drop)]
+#[derive(Clone, Copy)]
 pub enum Asked {
     // it has no word, or its first begins with #
     Nothing,
@@ -20,7 +20,7 @@ pub enum Asked {
 }
 
 // What is kept of the bytes taken so far.
-#[derive(Drop)]
+#[derive(Clone, Copy)]
 pub struct Line {
     // the last byte belongs to a word
     pub inside: bool,
@@ -41,7 +41,7 @@ pub struct Line {
 }
 
 // A number as it is read: its value counts only while it is good.
-#[derive(Drop)]
+#[derive(Clone, Copy)]
 pub struct Number {
     pub good: bool,
     pub value: u64,

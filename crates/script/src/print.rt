@@ -28,9 +28,8 @@ pub fn text(out: &mut [u8], at: usize, t: &[u8]) -> usize
 }
 
 pub fn number(out: &mut [u8], at: usize, n: u64) -> usize {
-    let mut digits = [0u8; 20];
-    let k = io::decimal(n, &mut digits);
-    text(out, at, &digits[..k])
+    let mut digits = itoa::Buffer::new();
+    text(out, at, digits.format(n).as_bytes())
 }
 
 // A text, and the line's end.

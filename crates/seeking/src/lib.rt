@@ -1,4 +1,6 @@
 // Stages 1 to 3 and 16 to 18 (document 01, "Stages of a task"): locate, find and read, and the same again for a remove that has set its mark.
+#![tactic(auto)]
+
 ghost use Rattle.std.specs.Prelude.{◌≡◌, List, ℕ, ◌*◌, ◌<◌};
 ghost use Rattle.rules.specs.Tables.{chunk_at};
 ghost use Rattle.rules.specs.Walks.{find_from};
