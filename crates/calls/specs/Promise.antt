@@ -9,7 +9,7 @@ use Rattle.rules.specs.Tables.{Tables}
 use Rattle.rules.specs.Layout.{tables}
 use Rattle.rules.specs.Rebalance.{Outcome, gives}
 use Rattle.rules.specs.Calls.{Call, fresh, calls}
-use Rattle.rows.specs.Rows.{Slice}
+use Rattle.rows.specs.Rows.{Lend}
 
 -- the words of every table that a host lends
 pub record Lending : Type 0 where
@@ -23,13 +23,13 @@ pub record Lending : Type 0 where
 abbrev pub lending : List ℕ → List ℕ → List ℕ → List ℕ → List ℕ → List ℕ → Lending
 lending d ts cs es vs ms = record { directory = d; tasks = ts; chunks = cs; entries = es; values = vs; marks = ms }
 
--- as they are lent to a call, and as it leaves them; a Slice is a lent slice as an `ensures` has it, at the call's entry and at its exit
-module _ (d ts cs es vs ms : Slice) where
+-- as they are lent to a call, and as it leaves them: the words of each slice, at the moment that its contract names
+module _ (d ts cs es vs ms : Lend) where
   abbrev pub words_lent : Lending
-  words_lent = lending d.entry.now ts.entry.now cs.entry.now es.entry.now vs.entry.now ms.entry.now
+  words_lent = lending d ts cs es vs ms
 
   abbrev pub words_left : Lending
-  words_left = lending d.exit.now ts.exit.now cs.exit.now es.exit.now vs.exit.now ms.exit.now
+  words_left = lending d ts cs es vs ms
 
 -- the tables that the words are
 abbrev pub tables_of : Sizes → Lending → Tables

@@ -19,7 +19,7 @@ pub fn is_lent(
     marks: &[u64],
 ) -> bool
     requires { Fits z }
-    ensures { result ≡ lent z (words_lent directory tasks chunks entries values marks) }
+    ensures { result ≡ lent z (words_lent directory.now tasks.now chunks.now entries.now values.now marks.now) }
 {
     if directory.len() != rows::DIRECTORY_WORDS + z.chunks * rows::INDEX_WORDS {
         return false;
@@ -50,7 +50,7 @@ pub fn is_ready(
     marks: &[u64],
 ) -> bool
     requires { Fits z }
-    ensures { result ≡ (lent z (words_lent directory tasks chunks entries values marks) and shape z (tables_of z (words_lent directory tasks chunks entries values marks))) }
+    ensures { result ≡ (lent z (words_lent directory.now tasks.now chunks.now entries.now values.now marks.now) and shape z (tables_of z (words_lent directory.now tasks.now chunks.now entries.now values.now marks.now))) }
 {
     if !is_lent(z, directory, tasks, chunks, entries, values, marks) {
         return false;
@@ -69,7 +69,7 @@ pub fn fresh(
     marks: &mut [u64],
 ) -> Report
     requires { Fits z }
-    ensures { Makes z (words_lent directory tasks chunks entries values marks) (words_left directory tasks chunks entries values marks) result }
+    ensures { Makes z (words_lent directory.old tasks.old chunks.old entries.old values.old marks.old) (words_left directory.new tasks.new chunks.new entries.new values.new marks.new) result }
 {
     if !is_lent(z, directory, tasks, chunks, entries, values, marks) {
         return Report::Refused(10);
@@ -94,7 +94,7 @@ pub fn start(
     f: u64,
 ) -> Report
     requires { Fits z }
-    ensures { Promise z (Call.start n op k a f) (words_lent directory tasks chunks entries values marks) (words_left directory tasks chunks entries values marks) result }
+    ensures { Promise z (Call.start n op k a f) (words_lent directory.now tasks.old chunks.now entries.now values.now marks.now) (words_left directory.now tasks.new chunks.now entries.now values.now marks.now) result }
 {
     if !is_ready(z, directory, tasks, chunks, entries, values, marks) {
         return Report::Refused(10);
@@ -114,7 +114,7 @@ pub fn step(
     n: u64,
 ) -> Report
     requires { Fits z }
-    ensures { Promise z (Call.step n) (words_lent directory tasks chunks entries values marks) (words_left directory tasks chunks entries values marks) result }
+    ensures { Promise z (Call.step n) (words_lent directory.now tasks.old chunks.old entries.old values.old marks.old) (words_left directory.now tasks.new chunks.new entries.new values.new marks.new) result }
 {
     if !is_ready(z, directory, tasks, chunks, entries, values, marks) {
         return Report::Refused(10);
@@ -134,7 +134,7 @@ pub fn begin(
     k: u64,
 ) -> Report
     requires { Fits z }
-    ensures { Promise z (Call.begin k) (words_lent directory tasks chunks entries values marks) (words_left directory tasks chunks entries values marks) result }
+    ensures { Promise z (Call.begin k) (words_lent directory.old tasks.now chunks.old entries.now values.now marks.now) (words_left directory.new tasks.now chunks.new entries.now values.now marks.now) result }
 {
     if !is_ready(z, directory, tasks, chunks, entries, values, marks) {
         return Report::Refused(10);
@@ -153,7 +153,7 @@ pub fn go_on(
     marks: &[u64],
 ) -> Report
     requires { Fits z }
-    ensures { Promise z Call.rebalance (words_lent directory tasks chunks entries values marks) (words_left directory tasks chunks entries values marks) result }
+    ensures { Promise z Call.rebalance (words_lent directory.old tasks.now chunks.old entries.old values.now marks.now) (words_left directory.new tasks.now chunks.new entries.new values.now marks.now) result }
 {
     if !is_ready(z, directory, tasks, chunks, entries, values, marks) {
         return Report::Refused(10);

@@ -4,7 +4,7 @@ use mathlib.Core.Path.{◌≡◌, refl, sym, ap, ◌∙◌}
 use mathlib.Core.Bool.{Bool, true, false}
 use mathlib.Core.List.{List, [], ◌∷◌}
 use mathlib.Core.Logic.{◌≢◌}
-use native.Mathlib.Nat.{lt_irrefl, le_antisymm, sub-zero}
+use native.Mathlib.Nat.{lt_irrefl, le_antisymm}
 use native.Mathlib.Numerals.{sub-one, add-one}
 use native.Mathlib.Omega.{arith}
 use native.Mathlib.Decide.{dec_lt}
@@ -111,9 +111,6 @@ module _ (z : Sizes) where
     pub rows : filled z es₀ d 0 (take many (naming_at z es₀ c p)) ≡ filled z es d n (take (many - n) (naming_at z es c q))
     pub rest : drop many (naming_at z es₀ c p) ≡ drop (many - n) (naming_at z es c q)
     pub enough : many - n ≤ length (naming_at z es c q)
-
-  pub along-start : (es : List Entry) (c d : ChunkNo) (p : Place) (many : ℕ) → many ≤ length (naming_at z es c p) → Along es es c d p p many 0
-  along-start es c d p many h = record { rows = rw sub-zero; rest = rw sub-zero; enough = rw sub-zero h }
 
   module _ (es₀ es : List Entry) (c d : ChunkNo) (p q : Place) (many n : ℕ) (along : Along es₀ es c d p q many n) where
     pub along-more : n < many → 0 < length (naming_at z es c q)

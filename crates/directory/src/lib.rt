@@ -14,7 +14,7 @@ pub fn fresh(
     values: &mut [u64],
     marks: &mut [u64],
 ) -> Report
-    ensures { Makes limits (words_lent directory tasks chunks entries values marks) (words_left directory tasks chunks entries values marks) result }
+    ensures { Makes limits (words_lent directory.old tasks.old chunks.old entries.old values.old marks.old) (words_left directory.new tasks.new chunks.new entries.new values.new marks.new) result }
 {
     calls::fresh(
         Directory::sizes(),
@@ -41,7 +41,7 @@ pub fn start(
     a: u64,
     f: u64,
 ) -> Report
-    ensures { Promise limits (Call.start n op k a f) (words_lent directory tasks chunks entries values marks) (words_left directory tasks chunks entries values marks) result }
+    ensures { Promise limits (Call.start n op k a f) (words_lent directory.now tasks.old chunks.now entries.now values.now marks.now) (words_left directory.now tasks.new chunks.now entries.now values.now marks.now) result }
 {
     calls::start(
         Directory::sizes(),
@@ -69,7 +69,7 @@ pub fn step(
     marks: &mut [u64],
     n: u64,
 ) -> Report
-    ensures { Promise limits (Call.step n) (words_lent directory tasks chunks entries values marks) (words_left directory tasks chunks entries values marks) result }
+    ensures { Promise limits (Call.step n) (words_lent directory.now tasks.old chunks.old entries.old values.old marks.old) (words_left directory.now tasks.new chunks.new entries.new values.new marks.new) result }
 {
     calls::step(
         Directory::sizes(),
@@ -93,7 +93,7 @@ pub fn begin(
     marks: &[u64],
     k: u64,
 ) -> Report
-    ensures { Promise limits (Call.begin k) (words_lent directory tasks chunks entries values marks) (words_left directory tasks chunks entries values marks) result }
+    ensures { Promise limits (Call.begin k) (words_lent directory.old tasks.now chunks.old entries.now values.now marks.now) (words_left directory.new tasks.now chunks.new entries.now values.now marks.now) result }
 {
     calls::begin(
         Directory::sizes(),
@@ -116,7 +116,7 @@ pub fn rebalance(
     values: &[u64],
     marks: &[u64],
 ) -> Report
-    ensures { Promise limits (Call.rebalance) (words_lent directory tasks chunks entries values marks) (words_left directory tasks chunks entries values marks) result }
+    ensures { Promise limits (Call.rebalance) (words_lent directory.old tasks.now chunks.old entries.old values.now marks.now) (words_left directory.new tasks.now chunks.new entries.new values.now marks.now) result }
 {
     calls::go_on(
         Directory::sizes(),

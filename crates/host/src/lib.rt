@@ -93,7 +93,7 @@ pub extern "C" fn kamrduch_fresh(
     marks: &mut [u64],
     answer: &mut [u64],
 ) -> u64
-    ensures { Answered (Makes limits (words_lent directory tasks chunks entries values marks) (words_left directory tasks chunks entries values marks)) result answer.old answer.new (words_lent directory tasks chunks entries values marks) (words_left directory tasks chunks entries values marks) }
+    ensures { Answered (Makes limits (words_lent directory.old tasks.old chunks.old entries.old values.old marks.old) (words_left directory.new tasks.new chunks.new entries.new values.new marks.new)) result answer.old answer.new (words_lent directory.old tasks.old chunks.old entries.old values.old marks.old) (words_left directory.new tasks.new chunks.new entries.new values.new marks.new) }
 {
     if answer.len() != 2 {
         return 0;
@@ -118,7 +118,7 @@ pub extern "C" fn kamrduch_start(
     f: u64,
     answer: &mut [u64],
 ) -> u64
-    ensures { Answered (Promise limits (Call.start n op k a f) (words_lent directory tasks chunks entries values marks) (words_left directory tasks chunks entries values marks)) result answer.old answer.new (words_lent directory tasks chunks entries values marks) (words_left directory tasks chunks entries values marks) }
+    ensures { Answered (Promise limits (Call.start n op k a f) (words_lent directory.now tasks.old chunks.now entries.now values.now marks.now) (words_left directory.now tasks.new chunks.now entries.now values.now marks.now)) result answer.old answer.new (words_lent directory.now tasks.old chunks.now entries.now values.now marks.now) (words_left directory.now tasks.new chunks.now entries.now values.now marks.now) }
 {
     if answer.len() != 2 {
         return 0;
@@ -141,7 +141,7 @@ pub extern "C" fn kamrduch_step(
     n: u64,
     answer: &mut [u64],
 ) -> u64
-    ensures { Answered (Promise limits (Call.step n) (words_lent directory tasks chunks entries values marks) (words_left directory tasks chunks entries values marks)) result answer.old answer.new (words_lent directory tasks chunks entries values marks) (words_left directory tasks chunks entries values marks) }
+    ensures { Answered (Promise limits (Call.step n) (words_lent directory.now tasks.old chunks.old entries.old values.old marks.old) (words_left directory.now tasks.new chunks.new entries.new values.new marks.new)) result answer.old answer.new (words_lent directory.now tasks.old chunks.old entries.old values.old marks.old) (words_left directory.now tasks.new chunks.new entries.new values.new marks.new) }
 {
     if answer.len() != 2 {
         return 0;
@@ -162,7 +162,7 @@ pub extern "C" fn kamrduch_begin(
     k: u64,
     answer: &mut [u64],
 ) -> u64
-    ensures { Answered (Promise limits (Call.begin k) (words_lent directory tasks chunks entries values marks) (words_left directory tasks chunks entries values marks)) result answer.old answer.new (words_lent directory tasks chunks entries values marks) (words_left directory tasks chunks entries values marks) }
+    ensures { Answered (Promise limits (Call.begin k) (words_lent directory.old tasks.now chunks.old entries.now values.now marks.now) (words_left directory.new tasks.now chunks.new entries.now values.now marks.now)) result answer.old answer.new (words_lent directory.old tasks.now chunks.old entries.now values.now marks.now) (words_left directory.new tasks.now chunks.new entries.now values.now marks.now) }
 {
     if answer.len() != 2 {
         return 0;
@@ -182,7 +182,7 @@ pub extern "C" fn kamrduch_rebalance(
     marks: &[u64],
     answer: &mut [u64],
 ) -> u64
-    ensures { Answered (Promise limits (Call.rebalance) (words_lent directory tasks chunks entries values marks) (words_left directory tasks chunks entries values marks)) result answer.old answer.new (words_lent directory tasks chunks entries values marks) (words_left directory tasks chunks entries values marks) }
+    ensures { Answered (Promise limits (Call.rebalance) (words_lent directory.old tasks.now chunks.old entries.old values.now marks.now) (words_left directory.new tasks.now chunks.new entries.new values.now marks.now)) result answer.old answer.new (words_lent directory.old tasks.now chunks.old entries.old values.now marks.now) (words_left directory.new tasks.now chunks.new entries.new values.now marks.now) }
 {
     if answer.len() != 2 {
         return 0;

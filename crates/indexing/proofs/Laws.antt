@@ -57,9 +57,6 @@ pub record Writing (size : ℕ) (before now : List ℕ) (all rest : List IndexRo
   pub long : length now ≡ length before
 
 module _ (size : ℕ) (before : List ℕ) (all : List IndexRow) where
-  pub writing-starts : Writing size before before all all 0
-  writing-starts = record { rows = refl; row = refl; room = zero-le; long = refl }
-
   pub writing_more : (now then : List ℕ) (rest more : List IndexRow) (n : ℕ) (x : IndexRow) → Writing size before now all rest n → rest ≡ x ∷ more → n < size → IndexPut now then n x → length then ≡ length now → Writing size before then all more (n + 1)
   writing_more now then rest more n x w q h put same =
       let one : take (n + 1) (index_rows size then) ≡ take n (index_rows size now) ++ (x ∷ []) = rw (put.rows size) (taken_more (index_rows size now) n x (rw length-rows h)) in
@@ -80,11 +77,6 @@ pub record Emptying (size : ℕ) (before now : List ℕ) (from i : ℕ) : Type 0
   pub long : length now ≡ length before
 
 module _ (size : ℕ) (before : List ℕ) (from : ℕ) where
-  pub emptying-starts : from ≤ size → Emptying size before before from from
-  emptying-starts h =
-      let none : from - from ≡ 0 = omega arith in
-      record { rows = rw none (sym (append-nil _)); row = refl; start = omega arith; room = h; long = refl }
-
   pub emptying-more : (now then : List ℕ) (i : ℕ) (x : IndexRow) → Emptying size before now from i → i < size → x ≡ empty_row → IndexPut now then i x → length then ≡ length now → Emptying size before then from (i + 1)
   emptying-more now then i x w h q put same =
       let one : take (i + 1) (index_rows size then) ≡ take i (index_rows size now) ++ (empty_row ∷ []) = rw (put.rows size, q) (taken_more (index_rows size now) i empty_row (rw length-rows h)) in

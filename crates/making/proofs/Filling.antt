@@ -1,21 +1,17 @@
--- A loop that fills a table from the front with one row, and the tables filled so.
+-- A loop that fills a table from the front with one row, and the stacks emptied so.
 use Prim.Native.Nat.{ℕ, zero, suc, ◌+◌, ◌*◌, ◌-◌, ◌<◌, ◌≤◌}
 use mathlib.Core.Path.{◌≡◌, refl, sym, ap, ◌∙◌}
 use mathlib.Core.List.{List, [], ◌∷◌, ◌++◌}
-use native.Mathlib.Nat.{le_antisymm, sub-zero}
+use native.Mathlib.Nat.{le_antisymm}
 use native.Mathlib.Numerals.{add-one}
 use native.Mathlib.Omega.{arith}
 use lib.ListN.{length, get_or, set, take, replicate, get_or-replicate, replicate-append-replicate}
 use lib.Seq.{take-suc-set, take-length, length-take-le, get_or-append-add}
 use Rattle.rules.specs.declared.Sizes.{Sizes}
-use Rattle.rules.specs.declared.Directory.{Directory}
-use Rattle.rules.specs.Words.{NONE, chunk_no, entry_no, no_entry, live}
-use Rattle.rules.specs.Tables.{idle_task, empty_chunk, empty_entry, empty_stack, empty_index}
-use Rattle.rules.specs.Rebalance.{with_status}
-use Rattle.rules.specs.Calls.{fresh_directory, fresh}
-use Rattle.rows.specs.Rows.{rows_from, directory_of, index_rows, task_rows, chunk_rows, entry_rows, stack_of, stack_rows, tables, IndexPut}
+use Rattle.rules.specs.Words.{NONE, entry_no, no_entry}
+use Rattle.rules.specs.Tables.{empty_stack}
+use Rattle.rows.specs.Rows.{rows_from, stack_of, stack_rows}
 use Rattle.rows.proofs.Laws.{row-alike, row_below}
-use Rattle.indexing.specs.Written.{Emptied}
 
 module _ {A : Type 0} (x : A) where
   pub filled_more : (l : List A) (i : ℕ) → i < length l → take i l ≡ replicate i x → take (i + 1) (set l i x) ≡ replicate (i + 1) x
@@ -51,21 +47,3 @@ stacks-empty z ws vs long q = rows_all (empty_stack z) (stack_of z vs) z.tasks (
         ∙ ap (λ (n : ℕ). get_or (take (z.tasks * 11) ws ++ replicate (length ws - z.tasks * 11) NONE) (n + r) 0) (sym first)
         ∙ get_or-append-add (take (z.tasks * 11) ws) (replicate (length ws - z.tasks * 11) NONE) r 0
         ∙ get_or-replicate (length ws - z.tasks * 11) r NONE 0 (omega (arith, long))
-
--- the directory's words: its row is fresh, and the index's rows are emptied; where there is a first row it is then chunk 0's
-module _ (z : Sizes) (d1 d2 : List ℕ) (x : Directory) (row : directory_of d1 ≡ x) (is-fresh : x ≡ fresh_directory) (empty : Emptied z.chunks d1 d2 0) where
-  row_fresh : directory_of d2 ≡ fresh_directory
-  row_fresh = empty.row ∙ row ∙ is-fresh
-
-  rows_empty : index_rows z.chunks d2 ≡ empty_index z
-  rows_empty = empty.rows ∙ rw sub-zero
-
-  pub no_row : z.chunks ≡ 0 → (directory_of d2 ≡ fresh_directory) × (index_rows z.chunks d2 ≡ (fresh z).index)
-  no_row h = (row_fresh, rows_empty ∙ rw h)
-
-  pub one-row : (d3 : List ℕ) → IndexPut d2 d3 0 (record { min = 0; chunk = chunk_no 0 }) → (directory_of d3 ≡ fresh_directory) × (index_rows z.chunks d3 ≡ (fresh z).index)
-  one-row d3 put = (put.row ∙ row_fresh, put.rows z.chunks ∙ rw rows_empty)
-
--- the tables are the fresh ones where each of them is
-pub made : (z : Sizes) (d ts cs es vs ms : List ℕ) → directory_of d ≡ fresh_directory → index_rows z.chunks d ≡ (fresh z).index → task_rows z.tasks ts ≡ replicate z.tasks idle_task → stack_rows z ts ≡ replicate z.tasks (empty_stack z) → chunk_rows z.chunks cs ≡ set (replicate z.chunks empty_chunk) 0 (with_status empty_chunk live) → entry_rows (z.chunks * z.entries) es ≡ replicate (z.chunks * z.entries) empty_entry → vs ≡ replicate z.handles 0 → ms ≡ replicate z.handles 0 → tables z d ts cs es vs ms ≡ fresh z
-made z d ts cs es vs ms pd pi pt ps pc pe pv pm = rw (pd, pi, pt, ps, pc, pe, pv, pm)

@@ -1,4 +1,6 @@
 // The fresh directory, made over whatever the tables held.
+#![tactic(auto)]
+
 ghost use Rattle.std.specs.Prelude.{◌≡◌, ◌++◌, ◌+◌, ◌*◌, ◌-◌, ◌≤◌, length, take, replicate};
 ghost use Rattle.rules.specs.declared.Sizes.{Sizes};
 ghost use Rattle.rules.specs.Tables.{idle_task, empty_chunk, empty_entry, empty_stack};
@@ -105,8 +107,8 @@ pub fn make(
     values: &mut [u64],
     marks: &mut [u64],
 )
-    requires { Lends z directory tasks chunks entries values marks }
-    ensures { as_left z directory tasks chunks entries values marks ≡ fresh z }
+    requires { Lends z directory.old tasks.old chunks.old entries.old values.old marks.old }
+    ensures { as_left z directory.new tasks.new chunks.new entries.new values.new marks.new ≡ fresh z }
 {
     clear_directory(z, directory);
     clear_tasks(z, tasks);

@@ -1,7 +1,5 @@
 -- What a contract says of the slices that a call is lent.
 use Rattle.std.specs.Prelude.{ℕ, ◌+◌, ◌*◌, ◌<◌, ◌≡◌, List, [], length, get_or, set}
-use Rattle.std.specs.Borrow.{Bor}
-use denote.Triple.Both.{Both}
 use Rattle.rules.specs.declared.Sizes.{Sizes}
 use Rattle.rules.specs.declared.Directory.{Directory}
 use Rattle.rules.specs.declared.IndexRow.{IndexRow}
@@ -25,28 +23,23 @@ pub record Lent (z : Sizes) (d ts cs es vs ms : List ℕ) : Type 0 where
 abbrev pub charted : Sizes → List ℕ → List ℕ → Tables
 charted z d cs = tables z d [] cs [] [] []
 
--- ---- the slices that a call is lent, as its contract has them
--- as a `requires` has one, and as an `ensures` has one, at the call's entry and at its exit
+-- ---- the slices that a call is lent: the words of each, at the moment that its contract names
 abbrev pub Lend : Type 0
-Lend = Bor (List ℕ)
-
-abbrev pub Slice : Type 0
-Slice = Both Lend Lend
+Lend = List ℕ
 
 module _ (z : Sizes) (d ts cs es vs ms : Lend) where
   abbrev pub Lends : Type 0
-  Lends = Lent z d.now ts.now cs.now es.now vs.now ms.now
+  Lends = Lent z d ts cs es vs ms
 
   abbrev pub tables_now : Tables
-  tables_now = tables z d.now ts.now cs.now es.now vs.now ms.now
+  tables_now = tables z d ts cs es vs ms
 
--- the tables as they are lent, and as they are left
-module _ (z : Sizes) (d ts cs es vs ms : Slice) where
+  -- the tables as they are lent, and as they are left
   abbrev pub as_lent : Tables
-  as_lent = tables_now z d.entry ts.entry cs.entry es.entry vs.entry ms.entry
+  as_lent = tables_now
 
   abbrev pub as_left : Tables
-  as_left = tables_now z d.exit ts.exit cs.exit es.exit vs.exit ms.exit
+  as_left = tables_now
 
 -- an entry's numbers lie in the entries' table, which has the words that the sizes ask
 pub record Numbers (z : Sizes) (es : List ℕ) (c : ChunkNo) (e : EntryNo) : Type 0 where

@@ -65,8 +65,8 @@ pub fn scan_down(
     n: usize,
     t: Task,
 ) -> Decision
-    requires { Lends z directory tasks chunks entries values marks × Charted z directory.now chunks.now × (n < z.tasks) }
-    ensures { result ≡ scans_down z (as_lent z directory tasks chunks entries values marks) t n }
+    requires { Lends z directory.now tasks.now chunks.now entries.now values.now marks.now × Charted z directory.now chunks.now × (n < z.tasks) }
+    ensures { result ≡ scans_down z (as_lent z directory.now tasks.now chunks.now entries.now values.now marks.now) t n }
 {
     let depth = walks::stack_depth(z, tasks, n);
     if 0 < depth {

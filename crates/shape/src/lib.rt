@@ -23,8 +23,8 @@ pub fn has_shape(
     values: &[u64],
     marks: &[u64],
 ) -> bool
-    requires { Lends z directory tasks chunks entries values marks }
-    ensures { result ≡ shape z (as_lent z directory tasks chunks entries values marks) }
+    requires { Lends z directory.now tasks.now chunks.now entries.now values.now marks.now }
+    ensures { result ≡ shape z (as_lent z directory.now tasks.now chunks.now entries.now values.now marks.now) }
 {
     let d = rows::directory_row(directory);
     if !marks_right(marks) {

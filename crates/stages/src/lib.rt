@@ -22,8 +22,8 @@ pub fn decide(
     n: usize,
     t: Task,
 ) -> Decision
-    requires { Lends z directory tasks chunks entries values marks × Held z t × (t.stage < 24) × Charted z directory.now chunks.now × (n < z.tasks) × Slotted z chunks.now entries.now }
-    ensures { result ≡ decide z (as_lent z directory tasks chunks entries values marks) n t }
+    requires { Lends z directory.now tasks.now chunks.now entries.now values.now marks.now × Held z t × (t.stage < 24) × Charted z directory.now chunks.now × (n < z.tasks) × Slotted z chunks.now entries.now }
+    ensures { result ≡ decide z (as_lent z directory.now tasks.now chunks.now entries.now values.now marks.now) n t }
 {
     let stage = t.stage;
     match stage {

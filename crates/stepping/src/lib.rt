@@ -19,8 +19,8 @@ pub fn step(
     marks: &mut [u64],
     n: u64,
 ) -> Report
-    requires { Lends z directory tasks chunks entries values marks × (shape z (tables_now z directory tasks chunks entries values marks) ≡ true) × (z.handles ≤ room) }
-    ensures { gives (as_left z directory tasks chunks entries values marks) result ≡ steps z (as_lent z directory tasks chunks entries values marks) n }
+    requires { Lends z directory.now tasks.old chunks.old entries.old values.old marks.old × (shape z (tables_now z directory.now tasks.old chunks.old entries.old values.old marks.old) ≡ true) × (z.handles ≤ room) }
+    ensures { gives (as_left z directory.now tasks.new chunks.new entries.new values.new marks.new) result ≡ steps z (as_lent z directory.now tasks.old chunks.old entries.old values.old marks.old) n }
 {
     let i = n as usize;
     if z.tasks <= i {

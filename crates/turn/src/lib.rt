@@ -29,8 +29,8 @@ pub fn move_on(
     n: usize,
     t: Task,
 ) -> Turned
-    requires { Lends z directory tasks chunks entries values marks × Held z t × (t.stage < 24) × Charted z directory.now chunks.old × (n < z.tasks) × Slotted z chunks.old entries.old }
-    ensures { (result.task ≡ (decide z (as_lent z directory tasks chunks entries values marks) n t).task) × (gives (as_left z directory tasks chunks entries values marks) result.report ≡ writes z (as_lent z directory tasks chunks entries values marks) n t) }
+    requires { Lends z directory.now tasks.now chunks.old entries.old values.old marks.old × Held z t × (t.stage < 24) × Charted z directory.now chunks.old × (n < z.tasks) × Slotted z chunks.old entries.old }
+    ensures { (result.task ≡ (decide z (as_lent z directory.now tasks.now chunks.old entries.old values.old marks.old) n t).task) × (gives (as_left z directory.now tasks.now chunks.new entries.new values.new marks.new) result.report ≡ writes z (as_lent z directory.now tasks.now chunks.old entries.old values.old marks.old) n t) }
 {
     let x = stages::decide(z, directory, tasks, chunks, entries, values, marks, n, t);
     let next = x.task;
@@ -52,8 +52,8 @@ pub fn step(
     n: usize,
     t: &mut Task,
 ) -> Report
-    requires { Lends z directory tasks chunks entries values marks × Held z t.old × (t.old.stage < 24) × Charted z directory.now chunks.old × (n < z.tasks) × Slotted z chunks.old entries.old }
-    ensures { (t.new ≡ (decide z (as_lent z directory tasks chunks entries values marks) n t.old).task) × (gives (as_left z directory tasks chunks entries values marks) result ≡ writes z (as_lent z directory tasks chunks entries values marks) n t.old) }
+    requires { Lends z directory.now tasks.now chunks.old entries.old values.old marks.old × Held z t.old × (t.old.stage < 24) × Charted z directory.now chunks.old × (n < z.tasks) × Slotted z chunks.old entries.old }
+    ensures { (t.new ≡ (decide z (as_lent z directory.now tasks.now chunks.old entries.old values.old marks.old) n t.old).task) × (gives (as_left z directory.now tasks.now chunks.new entries.new values.new marks.new) result ≡ writes z (as_lent z directory.now tasks.now chunks.old entries.old values.old marks.old) n t.old) }
 {
     let x = move_on(z, directory, tasks, chunks, entries, values, marks, n, *t);
     *t = x.task;
@@ -72,8 +72,8 @@ pub fn lend(
     n: usize,
     t: Task,
 ) -> Turned
-    requires { Lends z directory tasks chunks entries values marks × Held z t × (t.stage < 24) × Charted z directory.now chunks.old × (n < z.tasks) × Slotted z chunks.old entries.old }
-    ensures { (result.task ≡ (decide z (as_lent z directory tasks chunks entries values marks) n t).task) × (gives (as_left z directory tasks chunks entries values marks) result.report ≡ writes z (as_lent z directory tasks chunks entries values marks) n t) }
+    requires { Lends z directory.now tasks.now chunks.old entries.old values.old marks.old × Held z t × (t.stage < 24) × Charted z directory.now chunks.old × (n < z.tasks) × Slotted z chunks.old entries.old }
+    ensures { (result.task ≡ (decide z (as_lent z directory.now tasks.now chunks.old entries.old values.old marks.old) n t).task) × (gives (as_left z directory.now tasks.now chunks.new entries.new values.new marks.new) result.report ≡ writes z (as_lent z directory.now tasks.now chunks.old entries.old values.old marks.old) n t) }
 {
     let mut own = t;
     let report = step(

@@ -1,7 +1,5 @@
 use mathlib.Core.Path.{◌∙◌}
-use native.Mathlib.Omega.{arith}
 use native.Mathlib.Nat.{le_refl}
-use borrow.Author.Rules.{rules}
 use Rattle.making.proofs.Filling.{stacks-empty}
 use Rattle.making.proofs.clear_tasks.Goals as goal
 

@@ -1,12 +1,9 @@
 use Prim.Native.Nat.{◌-◌, ◌≤◌}
-use mathlib.Core.Path.{◌≡◌, refl, ◌∙◌}
-use native.Mathlib.Omega.{arith}
+use mathlib.Core.Path.{◌≡◌}
 use lib.ListN.{length, take}
 use lib.ListN.{replicate}
 use Rattle.rules.specs.Tables.{empty_chunk}
 use Rattle.rows.specs.Rows.{chunk_rows}
-use Rattle.rows.proofs.Laws.{length-rows}
-use Rattle.making.proofs.Filling.{filled_more, filled-all}
 use Rattle.making.proofs.empty_chunks.Given as goal
 
 abbrev pub invariant-loop-i : goal.invariant-loop-i
@@ -14,4 +11,3 @@ invariant-loop-i l = (take l.i (chunk_rows l.n l.chunks) ≡ replicate l.i empty
 
 abbrev pub decreases-loop-i : goal.decreases-loop-i
 decreases-loop-i l = l.n - l.i
-

@@ -1,8 +1,5 @@
-use Prim.Native.Nat.{◌-◌, ◌≤◌}
-use mathlib.Core.Path.{◌≡◌, refl, ◌∙◌}
+use mathlib.Core.Path.{◌∙◌}
 use native.Mathlib.Omega.{arith}
-use lib.ListN.{length, take}
-use lib.ListN.{replicate}
 use Rattle.rules.specs.Tables.{empty_entry}
 use Rattle.rows.specs.Rows.{entry_rows}
 use Rattle.rows.proofs.Laws.{length-rows}

@@ -1,8 +1,6 @@
-use Prim.Native.Nat.{◌-◌}
-use mathlib.Core.Path.{◌≡◌, refl, sym, ◌∙◌}
+use mathlib.Core.Path.{sym, ◌∙◌}
 use native.Mathlib.Omega.{arith}
-use lib.ListN.{length, length-set}
-use Rattle.making.specs.Clearing.{every_other}
+use lib.ListN.{length-set}
 use Rattle.making.proofs.Clearing.{other-next, other_none}
 use Rattle.making.proofs.every_other.Goals as goal
 

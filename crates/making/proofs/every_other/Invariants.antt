@@ -1,9 +1,7 @@
 use Prim.Native.Nat.{◌-◌}
-use mathlib.Core.Path.{◌≡◌, refl, sym, ◌∙◌}
-use native.Mathlib.Omega.{arith}
-use lib.ListN.{length, length-set}
+use mathlib.Core.Path.{◌≡◌}
+use lib.ListN.{length}
 use Rattle.making.specs.Clearing.{every_other}
-use Rattle.making.proofs.Clearing.{other-next, other_none}
 use Rattle.making.proofs.every_other.Given as goal
 
 abbrev pub invariant-loop-i : goal.invariant-loop-i
@@ -11,4 +9,3 @@ invariant-loop-i l = (every_other l.v l.i l.words ≡ every_other l.v l.from l.i
 
 abbrev pub decreases-loop-i : goal.decreases-loop-i
 decreases-loop-i l = length l.words - l.i
-

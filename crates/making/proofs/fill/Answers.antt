@@ -1,7 +1,5 @@
 use Prim.Native.Nat.{◌+◌}
 use mathlib.Core.Path.{ap, ◌∙◌}
-use native.Mathlib.Omega.{arith}
-use borrow.Author.Rules.{rules}
 use Rattle.making.specs.Clearing.{every_other}
 use Rattle.making.proofs.Clearing.{other-all}
 use Rattle.making.proofs.fill.Goals as goal

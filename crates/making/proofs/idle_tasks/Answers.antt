@@ -1,11 +1,7 @@
-use Prim.Native.Nat.{◌-◌, ◌≤◌}
-use mathlib.Core.Path.{◌≡◌, refl, ◌∙◌}
+use mathlib.Core.Path.{◌∙◌}
 use native.Mathlib.Omega.{arith}
-use lib.ListN.{length, take}
-use Rattle.rules.specs.declared.Sizes.{Sizes}
-use Rattle.rows.specs.Rows.{task_rows, stack_rows}
+use Rattle.rows.specs.Rows.{task_rows}
 use Rattle.rules.specs.Tables.{idle_task}
-use lib.ListN.{replicate}
 use Rattle.rows.proofs.Laws.{length-rows}
 use Rattle.making.proofs.Filling.{filled_more, filled-all}
 use Rattle.making.proofs.idle_tasks.Goals as goal

@@ -1,13 +1,10 @@
 use Prim.Native.Nat.{◌-◌, ◌≤◌}
-use mathlib.Core.Path.{◌≡◌, refl, ◌∙◌}
-use native.Mathlib.Omega.{arith}
+use mathlib.Core.Path.{◌≡◌}
 use lib.ListN.{length, take}
 use Rattle.rules.specs.declared.Sizes.{Sizes}
 use Rattle.rows.specs.Rows.{task_rows, stack_rows}
 use Rattle.rules.specs.Tables.{idle_task}
 use lib.ListN.{replicate}
-use Rattle.rows.proofs.Laws.{length-rows}
-use Rattle.making.proofs.Filling.{filled_more, filled-all}
 use Rattle.making.proofs.idle_tasks.Given as goal
 
 abbrev pub invariant-loop-i : goal.invariant-loop-i
@@ -15,4 +12,3 @@ invariant-loop-i l = (take l.i (task_rows l.n l.tasks) ≡ replicate l.i idle_ta
 
 abbrev pub decreases-loop-i : goal.decreases-loop-i
 decreases-loop-i l = l.n - l.i
-
