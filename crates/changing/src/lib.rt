@@ -1,4 +1,6 @@
 // Stages 4 to 9 (document 01, "Stages of a task"): check, apply, take entry, link, take handle, write.
+#![tactic(auto)]
+
 ghost use Rattle.std.specs.Prelude.{◌≡◌, ℕ, ◌*◌, ◌<◌, max, List, length};
 ghost use Rattle.rules.specs.Walks.{place_from};
 ghost use Rattle.rules.specs.Words.{no_entry};

@@ -3,7 +3,7 @@ use Rattle.std.specs.Prelude.{ℕ, ◌<◌, ◌≡◌}
 use Rattle.rules.specs.declared.Sizes.{Sizes}
 use Rattle.rules.specs.declared.ChunkNo.{ChunkNo}
 use Rattle.rules.specs.declared.EntryNo.{EntryNo}
-use Rattle.rules.specs.Tables.{Tables, entry}
+use Rattle.rules.specs.Tables.{Tables}
 use Rattle.rules.specs.Walks.{locate, first_present}
 
 -- the chunk that has the cursor, and the entry of its first present key in range, or none

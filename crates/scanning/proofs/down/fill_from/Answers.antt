@@ -1,4 +1,3 @@
-use borrow.Author.Rules.{rules}
 use Rattle.scanning.proofs.down.fill_from.Goals as goal
 
 pub returns : goal.returns

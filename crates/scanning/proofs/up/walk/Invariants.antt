@@ -1,15 +1,8 @@
-use Prim.Native.Nat.{◌*◌, ◌-◌, ◌<◌}
-use mathlib.Core.Path.{◌≡◌, refl, sym, ◌∙◌}
-use mathlib.Core.Logic.{⊎_elim}
-use native.Mathlib.Omega.{arith}
+use Prim.Native.Nat.{◌*◌, ◌<◌}
+use mathlib.Core.Path.{◌≡◌}
 use Rattle.rules.specs.Tables.{chunk_at}
 use Rattle.rules.specs.Walks.{locate_from, present_from}
 use Rattle.rows.specs.Rows.{directory_of, chunk_rows, entry_rows}
-use Rattle.rules.proofs.Tests.{and_left}
-use borrow.Author.Tests.{ltb-true}
-use borrow.Author.Rules.{rules}
-use Rattle.walks.proofs.Laws.{locate-spent}
-use Rattle.scanning.proofs.Laws.{on-next, on-stop, present-spent, present-out, present-here, present-next}
 use Rattle.scanning.proofs.up.walk.Given as goal
 
 abbrev pub invariant-loop-steps : goal.invariant-loop-steps
@@ -18,3 +11,8 @@ invariant-loop-steps l = (locate_from l.z (chunk_rows l.z.chunks l.chunks) l.z.c
 abbrev pub decreases-loop-steps : goal.decreases-loop-steps
 decreases-loop-steps l = l.steps
 
+abbrev pub invariant-walk : goal.invariant-walk
+invariant-walk l = (locate_from l.z (chunk_rows l.z.chunks l.chunks) l.z.chunks (directory_of l.directory).first l.from ≡ locate_from l.z (chunk_rows l.z.chunks l.chunks) l.left l.at l.from) × (l.at.0 < l.z.chunks)
+
+abbrev pub decreases-walk : goal.decreases-walk
+decreases-walk l = l.left
