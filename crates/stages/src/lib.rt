@@ -1,4 +1,6 @@
 // What a step decides, stage by stage (document 01, "Stages of a task"): the task's row afterwards, what changes elsewhere, and the report.
+#![tactic(auto)]
+
 mod publish;
 
 ghost use Rattle.std.specs.Prelude.{◌≡◌, ◌<◌};
