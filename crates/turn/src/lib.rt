@@ -1,4 +1,6 @@
 // One stage, over a task that is lent (document 01, "Stages of a task"): the task's own record moves on one stage, and what the stage names is written.
+#![tactic(auto)]
+
 ghost use Rattle.std.specs.Prelude.{◌≡◌, ◌<◌};
 ghost use Rattle.rules.specs.Stages.{decide};
 ghost use Rattle.rules.specs.Rebalance.{gives};
@@ -52,8 +54,8 @@ pub fn step(
     n: usize,
     t: &mut Task,
 ) -> Report
-    requires { Lends z directory.now tasks.now chunks.old entries.old values.old marks.old × Held z t.old × (t.old.stage < 24) × Charted z directory.now chunks.old × (n < z.tasks) × Slotted z chunks.old entries.old }
-    ensures { (t.new ≡ (decide z (as_lent z directory.now tasks.now chunks.old entries.old values.old marks.old) n t.old).task) × (gives (as_left z directory.now tasks.now chunks.new entries.new values.new marks.new) result ≡ writes z (as_lent z directory.now tasks.now chunks.old entries.old values.old marks.old) n t.old) }
+    requires { Lends z directory.now tasks.now chunks.old entries.old values.old marks.old × Held z t.now × (t.now.stage < 24) × Charted z directory.now chunks.old × (n < z.tasks) × Slotted z chunks.old entries.old }
+    ensures { (t.exit.now ≡ (decide z (as_lent z directory.now tasks.now chunks.old entries.old values.old marks.old) n t.entry.now).task) × (gives (as_left z directory.now tasks.now chunks.new entries.new values.new marks.new) result ≡ writes z (as_lent z directory.now tasks.now chunks.old entries.old values.old marks.old) n t.entry.now) }
 {
     let x = move_on(z, directory, tasks, chunks, entries, values, marks, n, *t);
     *t = x.task;
