@@ -1,4 +1,6 @@
 // A task's stack after its step (document 02, E1): a scan down takes one entry off, or fills it from the chunk that it then holds.
+#![tactic(auto)]
+
 ghost use Rattle.std.specs.Prelude.{◌≡◌, Bool, List, [], ℕ, ◌*◌, length, get_or};
 ghost use Rattle.rules.specs.Walks.{lies, within_from, over};
 ghost use Rattle.rules.specs.Stages.{up_to};

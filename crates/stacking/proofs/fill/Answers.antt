@@ -1,8 +1,5 @@
-use mathlib.Core.Path.{◌∙◌}
 use Prim.Native.Nat.{ℕ, ◌*◌}
 use mathlib.Core.List.{List}
-use borrow.Author.Rules.{rules}
-use mathlib.Core.Logic.{⊎_elim}
 use native.Mathlib.Omega.{arith}
 use Rattle.rules.specs.declared.Sizes.{Sizes}
 use Rattle.rules.specs.declared.ChunkNo.{ChunkNo}
@@ -10,8 +7,8 @@ use Rattle.rules.specs.declared.EntryNo.{EntryNo}
 use Rattle.rules.specs.Walks.{within_from}
 use Rattle.rows.specs.Rows.{entry_rows}
 use Rattle.walks.proofs.Laws.{within-spent, within-out, within-next}
-use Rattle.stacking.proofs.Filling.{Filling, filling-starts, filling-done, filling-passes, filling-lays}
-use Rattle.stacking.proofs.fill.Goals.{}
+use Rattle.stacking.proofs.Filling.{filling-done, filling-passes, filling-lays}
+use Rattle.stacking.proofs.fill.Goals.{then-in_range, else-in_range}
 use Rattle.stacking.proofs.fill.Goals as goal
 
 -- the entries in range that are still to be laid
@@ -26,10 +23,10 @@ loop-left-preserved c =
     let f = c.loop-left.invariant in
     let a = c.args in
     let next = within-next a.z (entry_rows (a.z.chunks * a.z.entries) a.entries.now) a.c a.from a.to c.loop-left.at c.loop-left.left (omega arith) c.if-z-at.false _ c.entry_in-x.ensures _ c.in_range.ensures in
-    ⊎_elim
-    (λ w. rw (w.5, w.6) (filling-lays _ _ _ _ _ _ _ _ _ _ _ f (rw w.0.taken at next) (omega arith) c.requires.task w.2.ensures w.2.kept.1.0))
-    (λ w. rw (w.1, w.2) (filling-passes _ _ _ _ _ _ _ _ _ f (rw w.0.left at next) (omega arith)))
-    c.if-in_range.branch
+    elim c.if-in_range.branch [
+      | then-in_range w ↦ rw (w.tasks-is, w.i-is) (filling-lays _ _ _ _ _ _ _ _ _ _ _ f (rw w.if-in_range.true at next) (omega arith) c.requires.task w.put_stack_at.ensures w.put_stack_at.auto.tasks)
+      | else-in_range w ↦ rw (w.tasks-is, w.i-is) (filling-passes _ _ _ _ _ _ _ _ _ f (rw w.if-in_range.false at next) (omega arith))
+    ]
 
 pub returns : goal.returns
 returns c = filling-done _ _ _ _ _ _ _ _ c.loop-left.invariant (within-spent _ _ _ _ _ _ _ c.loop-left-test.false)

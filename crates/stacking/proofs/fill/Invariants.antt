@@ -1,16 +1,11 @@
-use mathlib.Core.Path.{◌∙◌}
 use Prim.Native.Nat.{ℕ, ◌*◌}
 use mathlib.Core.List.{List}
-use borrow.Author.Rules.{rules}
-use mathlib.Core.Logic.{⊎_elim}
-use native.Mathlib.Omega.{arith}
 use Rattle.rules.specs.declared.Sizes.{Sizes}
 use Rattle.rules.specs.declared.ChunkNo.{ChunkNo}
 use Rattle.rules.specs.declared.EntryNo.{EntryNo}
 use Rattle.rules.specs.Walks.{within_from}
 use Rattle.rows.specs.Rows.{entry_rows}
-use Rattle.walks.proofs.Laws.{within-spent, within-out, within-next}
-use Rattle.stacking.proofs.Filling.{Filling, filling-starts, filling-done, filling-passes, filling-lays}
+use Rattle.stacking.proofs.Filling.{Filling}
 use Rattle.stacking.proofs.fill.Given as goal
 
 -- the entries in range that are still to be laid
@@ -22,4 +17,3 @@ invariant-loop-left l = Filling l.z l.initial.tasks l.tasks l.n l.i l.left (in_r
 
 abbrev pub decreases-loop-left : goal.decreases-loop-left
 decreases-loop-left l = l.left
-
