@@ -1,12 +1,11 @@
 -- Each stage's rule, told by what the code has read and written.
 use Prim.Native.Nat.{ℕ, zero, suc, ◌-◌, ◌≤◌, ◌<◌, zero-le}
 use mathlib.Core.Path.{◌≡◌, refl}
-use mathlib.Core.Bool.{Bool, true, false}
+use mathlib.Core.Bool.{false}
 use mathlib.Core.List.{List}
 use native.Mathlib.Nat.{lt_irrefl, le_antisymm}
 use native.Mathlib.Numerals.{sub-one}
-use borrow.Author.Tests.{lt-ltb, le-ltb, eq-eqb, ne_eqb}
-use lib.Dec.{eqb, ltb}
+use borrow.Author.Tests.{le-ltb, eq-eqb, ne_eqb}
 use lib.ListN.{set}
 use Rattle.rules.specs.declared.Sizes.{Sizes}
 use Rattle.rules.specs.declared.Directory.{Directory}
@@ -15,11 +14,11 @@ use Rattle.rules.specs.declared.Entry.{Entry}
 use Rattle.rules.specs.declared.ChunkNo.{ChunkNo}
 use Rattle.rules.specs.declared.IndexRow.{IndexRow}
 use Rattle.rules.specs.declared.Report.TheVariants as report
-use Rattle.rules.specs.Words.{pick, entry_no, no_chunk, retired, idle, to_drain, to_copy, to_swap, to_index, to_release}
+use Rattle.rules.specs.Words.{entry_no, no_chunk, idle, to_drain, to_copy, to_swap, to_index, to_release}
 use Rattle.rules.specs.Tables.{Tables, chunk_at, row, empty_chunk, empty_entry, with_directory, with_index, with_chunks, with_entries}
 use Rattle.rules.specs.Walks.{locate}
-use Rattle.rules.specs.Rebalance.{gives, unused_count, published_on, held_chunk, frozen_of, with_status, begins, drains, copies, swaps_in, indexes, releases, clears, rebalance_does}
-use Rattle.rebalance.specs.Parts.{at_stage, joined, placed, cleared}
+use Rattle.rules.specs.Rebalance.{gives, unused_count, held_chunk, frozen_of, begins, drains, copies, swaps_in, indexes, releases, clears, rebalance_does}
+use Rattle.rebalance.specs.Parts.{at_stage, cleared}
 
 -- ---- the rows that release empties
 module _ (z : Sizes) where
@@ -40,43 +39,12 @@ module _ (z : Sizes) where
 
 module _ (z : Sizes) (s : Tables) (d : Directory) (read : d ≡ s.directory) where
   -- ---- begin
-  pub begin-busy : (k : ℕ) → (d.stage ≡ idle → ⊥) → gives s (report.Refused 6) ≡ begins z s k
-  begin-busy k h = rw (ne_eqb _ _ (rw read at h))
-
-  pub begin-few : (k n : ℕ) → d.stage ≡ idle → n ≡ unused_count s.chunks → n < 2 → gives s (report.Refused 7) ≡ begins z s k
-  begin-few k n h q l = rw (eq-eqb _ _ (rw read at h), lt-ltb _ _ (rw q at l))
-
   pub begin-froze : (k n : ℕ) → d.stage ≡ idle → n ≡ unused_count s.chunks → 2 ≤ n → (c : ChunkNo) → c ≡ locate z s k → (x : Chunk) → x ≡ chunk_at s.chunks c
       → (d' : Directory) → d' ≡ at_stage s.directory d.first to_drain c no_chunk no_chunk → (ix : List IndexRow) → ix ≡ s.index → (cs : List Chunk) → cs ≡ set s.chunks c.0 (frozen_of x)
       → gives (with_chunks (with_index (with_directory s d') ix) cs) report.Moved ≡ begins z s k
   begin-froze k n h q l c at x row d' done ix kept cs wrote = rw (eq-eqb _ _ (rw read at h), le-ltb _ _ (rw q at l), done, kept, wrote, row, at, read)
 
-  -- ---- drain
-  pub drain-waits : published_on s.tasks d.old ≡ true → gives s report.Waiting ≡ drains z s
-  drain-waits h = rw (rw read at h)
-
-  pub drain-goes : published_on s.tasks d.old ≡ false → (d' : Directory) → d' ≡ at_stage s.directory d.first to_copy d.old no_chunk no_chunk → (ix : List IndexRow) → ix ≡ s.index → gives (with_index (with_directory s d') ix) report.Moved ≡ drains z s
-  drain-goes h d' done ix kept = rw (rw read at h, done, kept, read)
-
-  -- ---- swap in
-  pub swap-in-done : (x a b : Chunk) → x ≡ chunk_at s.chunks d.old → a ≡ chunk_at s.chunks d.new → b ≡ chunk_at s.chunks d.second
-      → (cs1 cs2 cs3 : List Chunk) → cs1 ≡ joined z s.chunks d.first d.old d.new → cs2 ≡ placed z cs1 d a b x.next → cs3 ≡ set cs2 d.old.0 (with_status x retired)
-      → (d' : Directory) → d' ≡ at_stage s.directory (pick (eqb d.first.0 d.old.0) d.new d.first) to_index d.old d.new d.second → (ix : List IndexRow) → ix ≡ s.index
-      → gives (with_chunks (with_index (with_directory s d') ix) cs3) report.Moved ≡ swaps_in z s
-  swap-in-done x a b qx qa qb cs1 cs2 cs3 join place retire d' done ix kept = rw (done, kept, retire, place, join, qx, qa, qb, read) (go (eqb s.directory.first.0 s.directory.old.0) (ltb s.directory.second.0 z.chunks) refl refl)
-    where
-      go : (t u : Bool) → eqb s.directory.first.0 s.directory.old.0 ≡ t → ltb s.directory.second.0 z.chunks ≡ u
-          → gives (with_chunks (with_directory s (at_stage s.directory (pick (eqb s.directory.first.0 s.directory.old.0) s.directory.new s.directory.first) to_index s.directory.old s.directory.new s.directory.second))
-          (set (placed z (joined z s.chunks s.directory.first s.directory.old s.directory.new) s.directory (chunk_at s.chunks s.directory.new) (chunk_at s.chunks s.directory.second) (chunk_at s.chunks s.directory.old).next) s.directory.old.0 (with_status (chunk_at s.chunks s.directory.old) retired))) report.Moved ≡ swaps_in z s
-      go true true p q = rw (p, q)
-      go true false p q = rw (p, q)
-      go false true p q = rw (p, q)
-      go false false p q = rw (p, q)
-
   -- ---- release
-  pub release-waits : held_chunk s.tasks d.old ≡ true → gives s report.Waiting ≡ releases z s
-  release-waits h = rw (rw read at h)
-
   pub release-ends : held_chunk s.tasks d.old ≡ false → (es : List Entry) → es ≡ cleared z z.entries s.entries d.old → (cs : List Chunk) → cs ≡ set s.chunks d.old.0 empty_chunk
       → (d' : Directory) → d' ≡ at_stage s.directory d.first idle no_chunk no_chunk no_chunk → (ix : List IndexRow) → ix ≡ s.index → gives (with_entries (with_chunks (with_index (with_directory s d') ix) cs) es) report.Finished ≡ releases z s
   release-ends h es empty cs unused d' done ix kept = rw (rw read at h, clears-rows, done, kept, unused, empty, read)

@@ -1,4 +1,6 @@
 // The rebalance over the lent tables: begin, then drain, copy, swap in, index and release, one call each (document 01, "Rebalancing"; document 02, E3).
+#![tactic(auto)]
+
 ghost use Rattle.std.specs.Prelude.{◌≡◌, List, ℕ, ◌+◌, ◌*◌, ◌<◌, ◌≤◌, length, set, eqb};
 ghost use Rattle.rules.specs.Words.{pick};
 ghost use Rattle.rules.specs.Rebalance.{gives, with_status, frozen_of, live_before, with_next_chunk, begins, drains, copies, swaps_in, releases, rebalance_does};
