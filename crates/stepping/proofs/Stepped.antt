@@ -9,7 +9,7 @@ use Rattle.rules.specs.declared.Sizes.{Sizes}
 use Rattle.rules.specs.declared.Task.{Task}
 use Rattle.rules.specs.declared.EntryNo.{EntryNo}
 use Rattle.rules.specs.declared.Decision.{Decision}
-use Rattle.rules.specs.Tables.{Tables, task, stack, with_own}
+use Rattle.rules.specs.Tables.{Tables, task, with_own}
 use Rattle.rules.specs.Stages.{decide, stage_does, apply, top_of, is_lowest, stack_then}
 use Rattle.rules.specs.Rebalance.{gives}
 use Rattle.rules.specs.Calls.{steps}

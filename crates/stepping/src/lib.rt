@@ -1,4 +1,6 @@
 // A step of a task: what its stage decides is done (document 01, "Stages of a task").
+#![tactic(auto)]
+
 ghost use Rattle.std.specs.Prelude.{◌≡◌, true, ◌≤◌};
 ghost use Rattle.rules.specs.Shape.{shape};
 ghost use Rattle.rules.specs.Calls.{steps};
