@@ -1,4 +1,6 @@
 // The calls over lent tables of any sizes: the slices' lengths are tested first, then the shape, then what the call itself refuses.
+#![tactic(auto)]
+
 ghost use Rattle.std.specs.Prelude.{◌≡◌};
 ghost use Rattle.rules.specs.Words.{◌and◌};
 ghost use Rattle.rules.specs.Shape.{shape};
