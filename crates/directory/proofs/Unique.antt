@@ -3,7 +3,6 @@ use Prim.Native.Nat.{ℕ}
 use mathlib.Core.Path.{◌≡◌}
 use Rattle.rules.specs.declared.Report.{Report}
 use Rattle.rules.specs.Words.{limits}
-use Rattle.rules.specs.Calls.{Call}
 use Rattle.rules.specs.Calls.Call.{start, step, begin, rebalance}
 use Rattle.calls.specs.Promise.{Lending, Promise, Makes}
 use Rattle.calls.proofs.Unique.{obeys-unique}

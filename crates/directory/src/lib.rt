@@ -1,4 +1,6 @@
 // The directory at document 01's limits: the public calls. Each takes lent tables of any length and any words, and checks for itself.
+#![tactic(auto)]
+
 ghost use Rattle.rules.specs.Words.{limits};
 ghost use Rattle.rules.specs.Calls.{Call};
 ghost use Rattle.calls.specs.Promise.{Promise, Makes, words_lent, words_left};
