@@ -1,5 +1,5 @@
 -- What a host gets from a linked call: a number, and a report's two values in the two words of its answer.
-use Rattle.std.specs.Prelude.{ℕ, ◌≡◌, Bool, true, false, List, [], ◌∷◌, eqb, length}
+use Rattle.std.specs.Prelude.{ℕ, ◌≡◌, true, false, List, [], ◌∷◌, eqb, length}
 use Rattle.rules.specs.declared.Report.{Report}
 use Rattle.rules.specs.Told.{told}
 use Rattle.calls.specs.Promise.{Lending}

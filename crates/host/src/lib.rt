@@ -1,5 +1,7 @@
 // The public calls for a host that links them: each gives the report's number, and leaves its two values in the two words of `answer`.
 // A slice crosses as a pointer and a length; nothing is asked of a length or of a word.
+#![tactic(auto)]
+
 ghost use Rattle.std.specs.Prelude.{◌≡◌, ℕ, length};
 ghost use Rattle.rules.specs.Told.{told};
 ghost use Rattle.rules.specs.Words.{limits};
