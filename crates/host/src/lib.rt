@@ -1,5 +1,5 @@
 // The public calls for a host that links them: each gives the report's number, and leaves its two values in the two words of `answer`.
-// A slice crosses as a pointer and a length; nothing is asked of a length or of a word.
+// Nothing is asked of a length or of a word; `host_c` exports them.
 #![tactic(auto)]
 
 ghost use Rattle.std.specs.Prelude.{◌≡◌, ℕ, length};
@@ -85,8 +85,7 @@ fn tell(r: Report, answer: &mut [u64]) -> u64
 }
 
 // The fresh directory, over whatever the tables held.
-#[unsafe(no_mangle)]
-pub extern "C" fn kamrduch_fresh(
+pub fn kamrduch_fresh(
     directory: &mut [u64],
     tasks: &mut [u64],
     chunks: &mut [u64],
@@ -105,8 +104,7 @@ pub extern "C" fn kamrduch_fresh(
 }
 
 // Task `n` starts an operation with a key, an argument and a function.
-#[unsafe(no_mangle)]
-pub extern "C" fn kamrduch_start(
+pub fn kamrduch_start(
     directory: &[u64],
     tasks: &mut [u64],
     chunks: &[u64],
@@ -132,8 +130,7 @@ pub extern "C" fn kamrduch_start(
 }
 
 // Task `n` takes one step.
-#[unsafe(no_mangle)]
-pub extern "C" fn kamrduch_step(
+pub fn kamrduch_step(
     directory: &[u64],
     tasks: &mut [u64],
     chunks: &mut [u64],
@@ -153,8 +150,7 @@ pub extern "C" fn kamrduch_step(
 }
 
 // A rebalance begins with the chunk that has the key.
-#[unsafe(no_mangle)]
-pub extern "C" fn kamrduch_begin(
+pub fn kamrduch_begin(
     directory: &mut [u64],
     tasks: &[u64],
     chunks: &mut [u64],
@@ -174,8 +170,7 @@ pub extern "C" fn kamrduch_begin(
 }
 
 // The rebalance takes its next step.
-#[unsafe(no_mangle)]
-pub extern "C" fn kamrduch_rebalance(
+pub fn kamrduch_rebalance(
     directory: &mut [u64],
     tasks: &[u64],
     chunks: &mut [u64],
