@@ -1,37 +1,37 @@
 #!/usr/bin/env bash
-# Makes the archives and prints the one that programs of this machine link.
-# target/staticlib/libhost.a is for x86-64. On another machine the same compiler turns the same LLVM module into target/native/libhost.a.
+# Makes the archive that a host links, target/staticlib/libhost.a for x86-64, and prints its name.
+# The compiler clears a local array by a call of memset before the code fills it. It sees that the clearing is idle, and leaves it out, where it may look far
+# enough back: so it gets wider bounds for that. They go to it by a folder of links to the toolchain in which its own compiler has a script before it.
 set -euo pipefail
 cd "$(dirname "$0")/.."
-machine=$(uname -m)
-if [ "$machine" = x86_64 ]; then
-    rt staticlib host >&2
-    echo target/staticlib/libhost.a
-    exit
-fi
 rt=$(readlink -f "$(command -v rt)")
 kit=$(cd "$(dirname "$rt")/.." && pwd -P)
-shade=$PWD/target/kit native=$PWD/target/native
-rm -rf "$shade" "$native"
-mkdir -p "$shade/on/$machine/toolchain/bin" "$native"
-# the kit, with a compiler before its own that keeps the module for this machine too
-link_all() { for x in "$1"/*; do [ "$(basename "$x")" = "$3" ] || ln -s "$x" "$2/$(basename "$x")"; done; }
-link_all "$kit" "$shade" on
-link_all "$kit/on/$machine" "$shade/on/$machine" toolchain
-link_all "$kit/on/$machine/toolchain" "$shade/on/$machine/toolchain" bin
-link_all "$kit/on/$machine/toolchain/bin" "$shade/on/$machine/toolchain/bin" clang
-cat >"$shade/on/$machine/toolchain/bin/clang" <<EOF
-#!/bin/sh
-real=$kit/on/$machine/toolchain/bin/clang
-for a in "\$@"; do
-    case \$a in
-    module.bc) "\$real" --target=$machine-unknown-linux-gnu -w -c -x ir "\$a" -o $native/host.o -fPIC -O3 -ffunction-sections 2>/dev/null || exit 1 ;;
-    esac
-done
-exec "\$real" "\$@"
-EOF
-chmod +x "$shade/on/$machine/toolchain/bin/clang"
-RATTLE_HOME=$shade rt staticlib host >&2
-ar rcs "$native/libhost.a" "$native/host.o"
+shade=$PWD/target/kit
 rm -rf "$shade"
-echo target/native/libhost.a
+mkdir -p "$shade/bin" "$shade/toolchain/bin" target/staticlib
+# links in the second folder to what the first has, but for the names after them
+link_all() {
+    local from=$1 to=$2 x
+    shift 2
+    for x in "$from"/*; do
+        case " $* " in *" $(basename "$x") "*) ;; *) ln -s "$x" "$to/$(basename "$x")" ;; esac
+    done
+}
+link_all "$kit" "$shade" bin toolchain
+link_all "$kit/bin" "$shade/bin" rt rtlib.py
+link_all "$kit/toolchain" "$shade/toolchain" bin
+link_all "$kit/toolchain/bin" "$shade/toolchain/bin" clang
+# these two find the toolchain from where they lie
+cp "$kit/bin/rt" "$kit/bin/rtlib.py" "$shade/bin"
+cat >"$shade/toolchain/bin/clang" <<EOF
+#!/bin/sh
+case " \$* " in
+*" -O3 "*) exec "$kit/toolchain/bin/clang" "\$@" -mllvm -unroll-threshold=400 -mllvm -dse-memoryssa-walklimit=800 -mllvm -dse-memoryssa-scanlimit=800 ;;
+esac
+exec "$kit/toolchain/bin/clang" "\$@"
+EOF
+chmod +x "$shade/toolchain/bin/clang"
+(cd crates/host_c && "$shade/bin/rt" lib) >&2
+cp crates/host_c/out/libhost_c.a target/staticlib/libhost.a
+rm -rf "$shade"
+echo target/staticlib/libhost.a

@@ -43,17 +43,8 @@ export CARGO_TARGET_DIR=$PWD/target/cargo KAMRDUCH_ARCHIVE=$PWD/$archive
 (cd rust && cargo build --offline --locked --release --quiet && cargo test --offline --locked --release --quiet -p model)
 target/cargo/release/compare "${@:-1}"
 
-# the x86-64 archive itself, where this machine only emulates it: the example, and a shorter comparison
-if [ "$archive" != target/staticlib/libhost.a ] && command -v clang >/dev/null; then
-    on=$(cd "$(dirname "$(readlink -f "$(command -v rt)")")/../on/$(uname -m)" && pwd -P)
-    emulated="$on/toolchain/bin/qemu-x86_64 $on/toolchain/lib/ld-linux-x86-64.so.2 --library-path $on/toolchain/lib"
-    for c in examples/host tests/lend; do
-        name=$made/$(basename $c)-x86
-        clang --target=x86_64-linux-gnu -isystem "/usr/include/$(gcc -dumpmachine)" -std=c11 -O2 -Wall -Wextra -Werror -fPIC -c $c.c -o "$name.o"
-        "$on/bin/rattle-link" --target x86_64-unknown-linux-gnu --toolchain "$on/toolchain" -o "$name" "$name.o" target/staticlib/libhost.a >"$name.link" 2>&1
-    done
-    $emulated "$made/host-x86" >"$made/host-x86.out"
-    same "$made/host-x86.out" "the example on x86-64"
-    KAMRDUCH_LEND="$emulated $made/lend-x86" target/cargo/release/compare 2 10000
-fi
+# a shorter comparison, with the calls made in a program of their own
+gcc -std=c11 -O2 -Wall -Wextra -Werror -pedantic -o "$made/lend" tests/lend.c "$archive"
+KAMRDUCH_LEND=$made/lend target/cargo/release/compare 2 10000
+
 echo "host: the archive, the header, the hosts, the stack and the comparison are right"
