@@ -1,6 +1,6 @@
 -- The three demands, for a reader who knows document 01. Beyond the rules (crates/rules/specs) these files, and no other, are to be believed; the rest serves proofs:
---   this file 68   crates/statements/specs/Runs.antt 65, Answers.antt 109, Sound.antt 88   crates/calls/specs/Promise.antt 65   crates/host/specs/Linked.antt 22 (lines)
--- What the code ensures is the contract of each public call (crates/directory, crates/host), with no `requires`: Promise, Makes and Answered below, at the limits.
+--   this file 65   crates/statements/specs/Runs.antt 60, Answers.antt 105, Sound.antt 84   crates/calls/specs/Promise.antt 60   crates/host/specs/Linked.antt 17 (lines)
+-- What the code ensures is the contract of each public call (crates/directory, crates/host, crates/host_c), with no `requires`: Promise, Makes and Answered below, at the limits.
 use Rattle.std.specs.Prelude.{ℕ, suc, ◌≡◌, true, length}
 use mathlib.Core.List.{List, map, Memᴰ}
 use Rattle.rules.specs.declared.Sizes.{Sizes}
