@@ -1,1 +1,3 @@
+#![tactic(auto)]
+
 // No function: facts of the handles that every call keeps.

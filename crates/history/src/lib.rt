@@ -1,1 +1,3 @@
+#![tactic(auto)]
+
 // No function: every finished operation answers as the sequential map does.

@@ -1,1 +1,3 @@
+#![tactic(auto)]
+
 // No function: the fact of publishers that every call keeps.

@@ -1,5 +1,6 @@
 // The things that the tables hold, by value, and what a call answers (document 01, "What the tables hold").
 // What is done with them is said in specs/, once, for every crate above.
+#![tactic(auto)]
 
 ghost use Rattle.std.specs.Prelude.{◌≡◌};
 ghost use Rattle.rules.specs.Words.{limits};

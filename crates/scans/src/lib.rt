@@ -1,1 +1,3 @@
+#![tactic(auto)]
+
 // No function: a scan is judged pair by pair.

@@ -1,1 +1,3 @@
+#![tactic(auto)]
+
 // No function: builds that the promise shuts out.
