@@ -1,180 +1,140 @@
 // Stages 4 to 9 (document 01, "Stages of a task"): check, apply, take entry, link, take handle, write.
 #![tactic(auto)]
 
-ghost use Rattle.std.specs.Prelude.{◌≡◌, ℕ, ◌*◌, ◌<◌, max, List, length};
-ghost use Rattle.rules.specs.Walks.{place_from};
-ghost use Rattle.rules.specs.Words.{no_entry};
+ghost use Rattle.std.specs.Prelude.{◌≡◌, ℕ, ◌<◌, List};
 ghost use Rattle.rules.specs.declared.Sizes.{Sizes};
-ghost use Rattle.rules.specs.Tables.{Tables, chunk_at};
+ghost use Rattle.rules.specs.declared.Write.TheVariants as write;
+ghost use Rattle.rules.specs.Tables.{Tables, value};
 ghost use Rattle.rules.specs.Stages.{applied, checks, applies, takes_entry, links, takes_handle, writes};
-ghost use Rattle.rows.specs.Rows.{tables, chunk_rows, entry_rows};
+ghost use Rattle.rows.specs.Rows.{tables};
+ghost use Rattle.rows.specs.Seen.{seen};
 ghost use Rattle.taking.specs.Slotted.{Slotted};
-ghost use Rattle.outcome.specs.Lengths.{Tasks, Chunks, Entries, Holds};
+ghost use Rattle.outcome.specs.Lengths.{Tasks};
 
-use outcome::{finishes, finishes_absent, gives_back, inserts, moves_keeping, moves_to, restarts};
-use rules::{Chunk, ChunkNo, Decision, Entry, EntryNo, HandleNo, NONE, Report, Sizes, Task, Write};
+use outcome::{
+    finishes, finishes_absent, gives_back, inserts, moves, restarts, seeks_again, with_entry,
+};
+use rows::Lent;
+use rules::{
+    Chunk, Decision, EntryNo, Function, HandleNo, NONE, Operation, Refusal, Report, Sizes, Task,
+    Write,
+};
 
 // 4 check
-pub fn check(values: &[u64], marks: &[u64], t: Task) -> Decision
-    ensures { (z : Sizes) (d ts cs es : List ℕ) → result ≡ checks z (tables z d ts cs es values.now marks.now) t }
+pub fn check(s: &Lent, t: Task) -> Decision
+    ensures { result ≡ checks s.now.z (seen s.now) t }
 {
-    let mark = rows::word_at(marks, t.old);
-    if mark == 0 {
-        if t.operation == 1 {
-            return finishes(Write::Nothing, Report::Value(rows::word_at(values, t.old)));
+    let operation = Operation::try_from(t.operation);
+    if rows::word_at(s.marks, t.old) == 0 {
+        return match operation {
+            Ok(Operation::Get) => gives_back(s.values, t, Write::Nothing),
+            Ok(Operation::PutIfAbsent) => finishes(Write::Nothing, Report::False),
+            _ => moves(Task { stage: 5, ..t }, Write::Nothing),
+        };
+    }
+    match operation {
+        Ok(Operation::Get) => finishes_absent(t),
+        Ok(Operation::Put | Operation::PutIfAbsent | Operation::Upsert) => {
+            moves(Task { stage: 8, ..t }, Write::Nothing)
         }
-        if t.operation == 3 {
-            return finishes(Write::Nothing, Report::False);
-        }
-        return moves_keeping(t, 5, Write::Nothing);
+        _ => moves(Task { stage: 13, ..t }, Write::Nothing),
     }
-    if t.operation == 1 {
-        return finishes_absent(t);
-    }
-    if inserts(t.operation) {
-        return moves_keeping(t, 8, Write::Nothing);
-    }
-    moves_keeping(t, 13, Write::Nothing)
 }
 
 // The functions of upsert and compute: add modulo 2^64, the larger, bitwise or.
 pub fn applied(f: u64, amount: u64, v: u64) -> u64
     ensures { result ≡ applied f amount v }
 {
-    if f == 1 {
-        return std::num::wrapping_add_u64(v, amount);
+    match Function::try_from(f) {
+        Ok(Function::Add) => v.wrapping_add(amount),
+        Ok(Function::Larger) => v.max(amount),
+        _ => v | amount,
     }
-    if f == 2 {
-        return larger(v, amount);
-    }
-    v | amount
-}
-
-pub fn larger(a: u64, b: u64) -> u64
-    ensures { result ≡ max a b }
-{
-    if a < b { b } else { a }
 }
 
 // 5 apply
-pub fn apply(values: &[u64], marks: &[u64], t: Task) -> Decision
-    ensures { (z : Sizes) (d ts cs es : List ℕ) → result ≡ applies z (tables z d ts cs es values.now marks.now) t }
+pub fn apply(s: &Lent, t: Task) -> Decision
+    ensures { result ≡ applies s.now.z (seen s.now) t }
 {
     let h = t.old;
-    let mark = rows::word_at(marks, h);
-    if mark == 0 {
-        if t.operation == 6 {
-            return moves_to(
-                t,
-                16,
-                ChunkNo(NONE),
-                EntryNo(NONE),
-                h,
-                HandleNo(NONE),
-                0,
-                0,
-                Write::Delete(h),
-            );
+    if rows::word_at(s.marks, h) != 0 {
+        if inserts(t.operation) {
+            return restarts(t, Report::Lost);
         }
-        if t.operation == 2 {
-            return gives_back(values, t, Write::Store(h, t.argument));
-        }
-        let v = applied(t.function, t.argument, rows::word_at(values, h));
-        if t.operation == 5 {
-            return finishes(Write::Store(h, v), Report::True);
-        }
-        return finishes(Write::Store(h, v), Report::Done);
+        return moves(Task { stage: 13, ..t }, Write::Nothing);
     }
-    if inserts(t.operation) {
-        return restarts(t, Report::Lost);
+    match Operation::try_from(t.operation) {
+        Ok(Operation::Remove) => moves(seeks_again(t), Write::Delete(h)),
+        Ok(Operation::Put) => gives_back(s.values, t, Write::Store(h, t.argument)),
+        Ok(Operation::Compute) => finishes(stores_applied(s, t), Report::True),
+        _ => finishes(stores_applied(s, t), Report::Done),
     }
-    moves_keeping(t, 13, Write::Nothing)
 }
 
 // 6 take entry
-pub fn take_entry(z: Sizes, chunks: &[u64], t: Task) -> Decision
-    requires { Chunks z chunks.now }
-    ensures { (d ts es vs ms : List ℕ) → result ≡ takes_entry z (tables z d ts chunks.now es vs ms) t }
+pub fn take_entry(s: &Lent, t: Task) -> Decision
+    ensures { result ≡ takes_entry s.now.z (seen s.now) t }
 {
-    let c = t.chunk;
-    let x = rows::chunk_at(z, chunks, c);
+    let x = rows::chunk_at(s.z, s.chunks, t.chunk);
     if x.frozen != 0 {
         return restarts(t, Report::Frozen);
     }
-    let i = x.used as usize;
-    if i < z.entries {
-        return moves_to(
-            t,
-            7,
-            c,
-            EntryNo(x.used),
-            HandleNo(NONE),
-            HandleNo(NONE),
-            0,
-            0,
-            Write::Slot(c, t.key),
-        );
+    if s.z.entries <= x.used as usize {
+        return restarts(t, Report::Full);
     }
-    restarts(t, Report::Full)
-}
-
-// The last linked entry of a chunk with a key below the given one, or none.
-pub fn place_in(z: Sizes, chunks: &[u64], entries: &[u64], c: ChunkNo, k: u64) -> EntryNo
-    requires { (c.0 < z.chunks) × Chunks z chunks.now × Entries z entries.now }
-    ensures { result ≡ place_from z (entry_rows (z.chunks * z.entries) entries.now) c z.entries no_entry (chunk_at (chunk_rows z.chunks chunks.now) c).head k }
-{
-    let x = rows::chunk_at(z, chunks, c);
-    let head = x.head;
-    walks::place(z, entries, c, head, k)
+    let taken = with_entry(t, 7, EntryNo(x.used));
+    moves(taken, Write::Slot(t.chunk, t.key))
 }
 
 // 7 link
-pub fn link(z: Sizes, chunks: &[u64], entries: &[u64], t: Task) -> Decision
-    requires { (t.chunk.0 < z.chunks) × Chunks z chunks.now × Entries z entries.now }
-    ensures { (d ts vs ms : List ℕ) → result ≡ links z (tables z d ts chunks.now entries.now vs ms) t }
+pub fn link(s: &Lent, t: Task) -> Decision
+    requires { t.chunk.0 < s.now.z.chunks }
+    ensures { result ≡ links s.now.z (seen s.now) t }
 {
-    let c = t.chunk;
-    let x = rows::chunk_at(z, chunks, c);
+    let x = rows::chunk_at(s.z, s.chunks, t.chunk);
     if x.frozen != 0 {
         return restarts(t, Report::Frozen);
     }
-    let other = seeking::find_in(z, chunks, entries, c, t.key);
-    let i = other.0 as usize;
-    if i < z.entries {
-        return moves_to(
-            t,
-            8,
-            c,
-            other,
-            HandleNo(NONE),
-            HandleNo(NONE),
-            0,
-            0,
-            Write::Nothing,
-        );
+    if let Some(other) = walks::find(s.z, s.entries, t.chunk, x.head, t.key) {
+        return moves(with_entry(t, 8, other), Write::Nothing);
     }
-    let below = place_in(z, chunks, entries, c, t.key);
-    let e = t.entry;
-    moves_keeping(t, 8, Write::Link(c, e, below))
+    let below = walks::place(s.z, s.entries, t.chunk, x.head, t.key).unwrap_or(EntryNo(NONE));
+    moves(Task { stage: 8, ..t }, Write::Link(t.chunk, t.entry, below))
 }
 
-// 8 take handle
+// 8 take handle. It asks for the tables that it reads and no more.
 pub fn take_handle(z: Sizes, tasks: &[u64], chunks: &[u64], entries: &[u64], t: Task) -> Decision
     requires { Tasks z tasks.now × Slotted z chunks.now entries.now }
     ensures { (d vs ms : List ℕ) → result ≡ takes_handle z (tables z d tasks.now chunks.now entries.now vs ms) t }
 {
-    let h = taking::lowest_free(z, chunks, entries, tasks);
-    let i = h.0 as usize;
-    if i < z.handles {
-        return moves_to(t, 9, t.chunk, t.entry, t.old, h, 0, 0, Write::Fresh(h));
+    match taking::lowest_free(z, chunks, entries, tasks) {
+        Some(new) => {
+            let next = Task {
+                stage: 9,
+                new,
+                published: 0,
+                swapped: 0,
+                ..t
+            };
+            moves(next, Write::Fresh(new))
+        }
+        None => finishes(Write::Nothing, Report::from(Refusal::NoHandle)),
     }
-    finishes(Write::Nothing, Report::Refused(9))
 }
 
 // 9 write
 pub fn write(t: Task) -> Decision
     ensures { (z : Sizes) (s : Tables) → result ≡ writes z s t }
 {
-    let h = t.new;
-    moves_keeping(t, 10, Write::Store(h, t.argument))
+    moves(Task { stage: 10, ..t }, Write::Store(t.new, t.argument))
+}
+
+// The old handle's value is stored again, the task's function applied to it.
+fn stores_applied(s: &Lent, t: Task) -> Write
+    ensures { result ≡ write.Store t.old (applied t.function t.argument (value (seen s.now) t.old)) }
+{
+    Write::Store(
+        t.old,
+        applied(t.function, t.argument, rows::word_at(s.values, t.old)),
+    )
 }

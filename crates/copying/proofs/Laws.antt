@@ -4,8 +4,8 @@ use mathlib.Core.Path.{◌≡◌, refl, sym, ap, ◌∙◌}
 use mathlib.Core.Bool.{Bool, true, false}
 use mathlib.Core.List.{List, [], ◌∷◌}
 use mathlib.Core.Logic.{◌≢◌}
-use native.Mathlib.Nat.{lt_irrefl, le_antisymm}
-use native.Mathlib.Numerals.{sub-one, add-one}
+use native.Mathlib.Nat.{le_antisymm}
+use native.Mathlib.Numerals.{add-one}
 use native.Mathlib.Omega.{arith}
 use native.Mathlib.Decide.{dec_lt}
 use borrow.Author.Tests.{lt-ltb, le-ltb, ltb-true}
@@ -21,7 +21,7 @@ use Rattle.rules.specs.Tables.{Tables, entry_at, empty_entry, row, with_entries}
 use Rattle.rules.specs.Rebalance.{naming_from, fill}
 use Rattle.rows.proofs.Laws.{row_below}
 use Rattle.copying.specs.declared.Place.{Place}
-use Rattle.copying.specs.Copied.{copy_of, filled, naming_at, Stands, Filled}
+use Rattle.copying.specs.Copied.{copy_of, filled, naming_at, Filled}
 
 -- rows of different chunks differ
 rows-differ : (m c d e f : ℕ) → c ≢ d → e < m → f < m → c * m + e ≢ d * m + f
@@ -46,15 +46,13 @@ module _ (z : Sizes) where
     naming-out zero h = refl
     naming-out (suc n) h = rw (le-ltb _ _ h)
 
-    pub naming-here : (left : ℕ) → 0 < left → e.0 < z.entries → (x : Entry) → x ≡ entry_at z es c e → x.handle.0 < z.handles → naming_from z es c left e ≡ x ∷ naming_from z es c (left - 1) x.next
+    pub naming-here : (left rest : ℕ) → left ≡ rest + 1 → e.0 < z.entries → (x : Entry) → x ≡ entry_at z es c e → x.handle.0 < z.handles → naming_from z es c left e ≡ x ∷ naming_from z es c rest x.next
     unfolding naming_from
-    naming-here zero p h x q m = absurd (lt_irrefl _ p)
-    naming-here (suc n) p h x q m = rw (lt-ltb _ _ h, ← q, lt-ltb _ _ m, sub-one)
+    naming-here left rest p h x q m = rw (p, add-one rest) (rw (lt-ltb _ _ h, ← q, lt-ltb _ _ m))
 
-    pub naming-past : (left : ℕ) → 0 < left → e.0 < z.entries → (x : Entry) → x ≡ entry_at z es c e → z.handles ≤ x.handle.0 → naming_from z es c left e ≡ naming_from z es c (left - 1) x.next
+    pub naming-past : (left rest : ℕ) → left ≡ rest + 1 → e.0 < z.entries → (x : Entry) → x ≡ entry_at z es c e → z.handles ≤ x.handle.0 → naming_from z es c left e ≡ naming_from z es c rest x.next
     unfolding naming_from
-    naming-past zero p h x q m = absurd (lt_irrefl _ p)
-    naming-past (suc n) p h x q m = rw (lt-ltb _ _ h, ← q, le-ltb _ _ m, sub-one)
+    naming-past left rest p h x q m = rw (p, add-one rest) (rw (lt-ltb _ _ h, ← q, le-ltb _ _ m))
 
   -- a row written in another chunk leaves the walk as it was
   module _ (es : List Entry) (c d : ChunkNo) (other : c.0 ≢ d.0) (n : ℕ) (inside : n < z.entries) (y : Entry) where
@@ -69,21 +67,6 @@ module _ (z : Sizes) where
             let same : entry_at z (set es (row z d (entry_no n)) y) c e ≡ entry_at z es c e = get_or-set_other es (row z d (entry_no n)) (row z c e) y empty_entry (rows-differ z.entries c.0 d.0 e.0 n other (ltb-true _ _ p) inside) in
             rw (p, same, on (entry_at z es c e).next)
         go false p on = rw p
-
-  -- a walk that has come to a place with a step left has an entry there
-  module _ (es : List Entry) (c : ChunkNo) (p r : Place) (at : Stands z es c p r) where
-    pub stands-none : r.left ≤ 0 → naming_at z es c p ≡ []
-    stands-none h = at.same ∙ naming-spent es c r.entry r.left h
-
-    pub stands_here : 0 < r.left → (x : Entry) → x ≡ entry_at z es c r.entry → naming_at z es c p ≡ x ∷ naming_from z es c (r.left - 1) x.next
-    stands_here h x q = at.same ∙ naming-here es c r.entry r.left h (at.entry h) x q (rw q (at.handle h))
-
-    pub stands-more : 0 < length (naming_at z es c p) → 0 < r.left
-    stands-more h = go (dec_lt 0 r.left)
-      where
-        go : Dec (0 < r.left) → 0 < r.left
-        go (yes l) = l
-        go (no l) = absurd (lt_irrefl _ (rw (stands-none (omega arith)) at h))
 
   -- ---- the copying
   pub fill-rows : (s : Tables) (c : ChunkNo) (n : ℕ) (l : List Entry) → fill z s c n l ≡ with_entries s (filled z s.entries c n l)
@@ -107,30 +90,29 @@ module _ (z : Sizes) where
     filled_next es d n h y copied es' wrote = rw (first, one, add-one k) (filled-cons es d n k x (take k on) (length-take-le k on (enough-next h)) y copied es' wrote)
 
   -- what is left to do, from row n and place q on, is what was to do from row 0 and place p on
-  pub record Along (es₀ es : List Entry) (c d : ChunkNo) (p q : Place) (many n : ℕ) : Type 0 where
-    pub rows : filled z es₀ d 0 (take many (naming_at z es₀ c p)) ≡ filled z es d n (take (many - n) (naming_at z es c q))
-    pub rest : drop many (naming_at z es₀ c p) ≡ drop (many - n) (naming_at z es c q)
-    pub enough : many - n ≤ length (naming_at z es c q)
+  pub record Along (es₀ es : List Entry) (d : ChunkNo) (p q : Place) (many n : ℕ) : Type 0 where
+    pub rows : filled z es₀ d 0 (take many (naming_at z es₀ p)) ≡ filled z es d n (take (many - n) (naming_at z es q))
+    pub rest : drop many (naming_at z es₀ p) ≡ drop (many - n) (naming_at z es q)
+    pub enough : many - n ≤ length (naming_at z es q)
+    pub chunk : q.chunk ≡ p.chunk
 
-  module _ (es₀ es : List Entry) (c d : ChunkNo) (p q : Place) (many n : ℕ) (along : Along es₀ es c d p q many n) where
-    pub along-more : n < many → 0 < length (naming_at z es c q)
-    along-more h = omega (arith, along.enough)
-
-    pub along-next : n < many → (r : Place) → Stands z es c q r → (x : Entry) → x ≡ entry_at z es c r.entry → c.0 ≢ d.0 → n < z.entries → (y : Entry) → y ≡ copy_of x n (many - (n + 1))
-        → (es' : List Entry) → es' ≡ set es (row z d (entry_no n)) y → Along es₀ es' c d p (record { entry = x.next; left = r.left - 1 }) many (n + 1)
-    along-next h r at x here other inside y copied es' wrote =
+  module _ (es₀ es : List Entry) (d : ChunkNo) (p q : Place) (many n : ℕ) (along : Along es₀ es d p q many n) where
+    pub along-next : n < many → (x : Entry) (r : Place) → naming_at z es q ≡ x ∷ naming_at z es r → r.chunk ≡ q.chunk → p.chunk.0 ≢ d.0 → n < z.entries → (y : Entry) → y ≡ copy_of x n (many - (n + 1))
+        → (es' : List Entry) → es' ≡ set es (row z d (entry_no n)) y → Along es₀ es' d p r many (n + 1)
+    along-next h x r first same other inside y copied es' wrote =
         let one : many - n ≡ many - (n + 1) + 1 = omega arith in
-        let first : naming_at z es c q ≡ x ∷ naming_from z es c (r.left - 1) x.next = stands_here es c q r at (stands-more es c q r at (along-more h)) x here in
-        let kept : naming_from z es' c (r.left - 1) x.next ≡ naming_from z es c (r.left - 1) x.next = rw wrote (naming-kept es c d other n inside y (r.left - 1) x.next) in
+        let stays : r.chunk ≡ p.chunk = same ∙ along.chunk in
+        let kept : naming_at z es' r ≡ naming_at z es r = rw wrote (naming-kept es r.chunk d (rw stays other) n inside y r.left r.entry) in
         record {
           rows = along.rows ∙ rw kept (filled_next _ _ _ _ _ first one es d n along.enough y copied es' wrote);
           rest = along.rest ∙ rw kept (drop-next _ _ _ _ _ first one);
           enough = rw kept (enough-next _ _ _ _ _ first one along.enough);
+          chunk = stays;
         }
 
-    pub along-end : many ≤ n → Filled z es₀ es c p q d many
+    pub along-end : many ≤ n → Filled z es₀ es p q d many
     unfolding filled
-    along-end h = record { rows = rw none at (sym along.rows); rest = rw none at (sym along.rest) }
+    along-end h = record { rows = rw none at (sym along.rows); rest = rw none at (sym along.rest); chunk = along.chunk }
       where
         none : many - n ≡ 0
         none = omega arith

@@ -27,6 +27,7 @@ pub fn fresh(
         values,
         marks,
     )
+    .into()
 }
 
 // Task `n` starts an operation with a key, an argument and a function.
@@ -59,6 +60,7 @@ pub fn start(
         a,
         f,
     )
+    .into()
 }
 
 // Task `n` takes one step.
@@ -83,6 +85,7 @@ pub fn step(
         marks,
         n,
     )
+    .into()
 }
 
 // A rebalance begins with the chunk that has the key.
@@ -107,6 +110,7 @@ pub fn begin(
         marks,
         k,
     )
+    .into()
 }
 
 // The rebalance takes its next step.
@@ -129,4 +133,5 @@ pub fn rebalance(
         values,
         marks,
     )
+    .into()
 }

@@ -32,55 +32,26 @@ fn number(r: Report) -> u64
     }
 }
 
-// The report's first value, or 0.
-fn first(r: Report) -> u64
-    ensures { result ≡ (told r).first }
+// The report's two values, or 0.
+fn values_of(r: Report) -> (u64, u64)
+    ensures { (result.0 ≡ (told r).first) × (result.1 ≡ (told r).second) }
 {
     match r {
-        Report::Refused(n) => n,
-        Report::Pair(k, _) => k,
-        Report::Value(v) => v,
-        Report::Moved => 0,
-        Report::Frozen => 0,
-        Report::Full => 0,
-        Report::Lost => 0,
-        Report::Absent => 0,
-        Report::Done => 0,
-        Report::True => 0,
-        Report::False => 0,
-        Report::Waiting => 0,
-        Report::Finished => 0,
+        Report::Refused(n) => (n, 0),
+        Report::Pair(k, v) => (k, v),
+        Report::Value(v) => (v, 0),
+        _ => (0, 0),
     }
 }
 
-// The report's second value, or 0.
-fn second(r: Report) -> u64
-    ensures { result ≡ (told r).second }
-{
-    match r {
-        Report::Pair(_, v) => v,
-        Report::Refused(_) => 0,
-        Report::Value(_) => 0,
-        Report::Moved => 0,
-        Report::Frozen => 0,
-        Report::Full => 0,
-        Report::Lost => 0,
-        Report::Absent => 0,
-        Report::Done => 0,
-        Report::True => 0,
-        Report::False => 0,
-        Report::Waiting => 0,
-        Report::Finished => 0,
-    }
-}
-
-// The report, told to the host.
+// The report, told to the host. The test of the answer's length stands in each of the five: a call that a closure makes would leave the tables' words unsaid where it is not made.
 fn tell(r: Report, answer: &mut [u64]) -> u64
     requires { length answer.old ≡ 2 }
     ensures { Says result answer.new r }
 {
-    answer[0] = first(r);
-    answer[1] = second(r);
+    let (first, second) = values_of(r);
+    answer[0] = first;
+    answer[1] = second;
     number(r)
 }
 

@@ -1,13 +1,13 @@
 -- The index's rows asked one by one: each turn, and what is left past the count.
 use Prim.Native.Nat.{ℕ, zero, suc, ◌+◌, ◌-◌, ◌≤◌, ◌<◌}
 use mathlib.Core.Path.{◌≡◌, refl, ◌∙◌}
-use mathlib.Core.Bool.{Bool, true, false, not, ◌&&◌}
+use mathlib.Core.Bool.{Bool, true, false, ◌&&◌}
 use mathlib.Core.List.{List, [], ◌∷◌}
 use native.Mathlib.Nat.{not-suc-le-zero, le_of_suc-le-suc, sub-zero}
 use native.Mathlib.Omega.{arith}
 use lib.Dec.{leb}
 use lib.ListN.{length}
-use borrow.Author.Tests.{ne_eqb, not-true, not-false}
+use borrow.Author.Tests.{ne_eqb}
 use Rattle.rules.specs.declared.Sizes.{Sizes}
 use Rattle.rules.specs.declared.Directory.{Directory}
 use Rattle.rules.specs.declared.Chunk.{Chunk}
@@ -17,7 +17,6 @@ use Rattle.rules.specs.Shape.{each, is_empty_row, names_chunk, rows_ascend, inde
 use Rattle.rows.specs.Rows.{rows_from, directory_of, index_of, chunk_rows, charted}
 use Rattle.rows.proofs.Laws.{length-rows}
 use Rattle.listed.proofs.Tests.{both-fail, both_hold}
-use Rattle.indexed.specs.Charts.{empty_from, FirstRight}
 
 module _ (z : Sizes) (cs : List Chunk) where
   past : (k i : ℕ) (l : List IndexRow) → rows_ascend z cs 0 k l ≡ each (λ n x. is_empty_row x) i l
@@ -72,10 +71,3 @@ module _ (z : Sizes) (cs : List Chunk) where
 module _ (z : Sizes) (d cs : List ℕ) (x : Directory) (read : x ≡ directory_of d) where
   pub index-over : z.chunks < x.indexed → index_right z (charted z d cs) ≡ false
   index-over h = asked-over z (chunk_rows z.chunks cs) (index_of d) z.chunks (directory_of d).indexed (rw read at h)
-
-  module _ (right : Bool) (first : FirstRight z d cs x.indexed right) where
-    pub index-fails : not right ≡ true → index_right z (charted z d cs) ≡ false
-    index-fails h = rw (read, not-true right h) at first
-
-    pub index-holds : not right ≡ false → index_right z (charted z d cs) ≡ empty_from z d x.indexed
-    index-holds h = rw read (rw (read, not-false right h) at first)

@@ -6,13 +6,13 @@ ghost use Rattle.rules.specs.Shape.{is_empty_row, names_chunk, index_right};
 ghost use Rattle.rows.specs.Rows.{chunk_rows, charted};
 ghost use Rattle.indexed.specs.Charts.{Long, empty_from, FirstRight};
 
-use rules::{IndexRow, NONE, Sizes};
+use rules::{Chunk, IndexRow, Sizes};
 
 // A row past the count.
 fn is_empty_row(x: IndexRow) -> bool
     ensures { result ≡ is_empty_row x }
 {
-    (x.min == 0) & (x.chunk.0 == NONE)
+    x == rows::empty_row()
 }
 
 // The row names a live or retired chunk, and has its minimum key.
@@ -25,7 +25,7 @@ fn names_chunk(z: Sizes, chunks: &[u64], x: IndexRow) -> bool
         return false;
     }
     let row = rows::chunk_row(chunks, i);
-    ((row.status == 1) | (row.status == 3)) & (x.min == row.min)
+    ((row.status == Chunk::LIVE) | (row.status == Chunk::RETIRED)) & (x.min == row.min)
 }
 
 // The first rows, so many.
@@ -33,35 +33,26 @@ fn rows_ascend(z: Sizes, directory: &[u64], chunks: &[u64], many: usize) -> bool
     requires { Long z directory.now chunks.now × (many ≤ z.chunks) }
     ensures { FirstRight z directory.now chunks.now many result }
 {
-    let mut i = 0;
-    let mut start = true;
-    let mut last = 0;
-    while i < many {
+    let mut last = None;
+    for i in 0..many {
         let x = rows::index_row(directory, i);
-        if !(listed::follows(start, last, x.min) & names_chunk(z, chunks, x)) {
+        if !(listed::follows(last, x.min) & names_chunk(z, chunks, x)) {
             return false;
         }
-        start = false;
-        last = x.min;
-        i += 1;
+        last = Some(x.min);
     }
     true
 }
 
-// The rows from one on are empty.
+// The rows from one on are empty; a fold, since an `all`, which leaves early, is not made into vectors.
 fn rows_empty(z: Sizes, directory: &[u64], from: usize) -> bool
     requires { 6 + z.chunks * 2 ≤ length directory.now }
     ensures { result ≡ empty_from z directory.now from }
 {
-    let size = z.chunks;
-    let mut ok = true;
-    let mut i = from;
-    while i < size {
-        let x = rows::index_row(directory, i);
-        ok = ok & is_empty_row(x);
-        i += 1;
-    }
-    ok
+    (from..z.chunks).fold(
+        true,
+        |ok, i| ok & is_empty_row(rows::index_row(directory, i)),
+    )
 }
 
 // Every row.
@@ -71,11 +62,5 @@ pub fn index_right(z: Sizes, directory: &[u64], chunks: &[u64]) -> bool
 {
     let d = rows::directory_row(directory);
     let many = d.indexed as usize;
-    if z.chunks < many {
-        return false;
-    }
-    if !rows_ascend(z, directory, chunks, many) {
-        return false;
-    }
-    rows_empty(z, directory, many)
+    many <= z.chunks && rows_ascend(z, directory, chunks, many) && rows_empty(z, directory, many)
 }

@@ -2,8 +2,8 @@
 use Prim.Native.Nat.{ℕ, zero, suc, ◌+◌, ◌-◌, ◌≤◌, ◌<◌, zero-le}
 use mathlib.Core.Path.{◌≡◌, refl, sym, ap, ◌∙◌}
 use mathlib.Core.List.{List, [], ◌∷◌, ◌++◌, append_assoc, append-nil}
-use native.Mathlib.Nat.{lt_irrefl, le_antisymm, sub-zero, suc-sub-suc, not-suc-le-zero, le_of_suc-le-suc}
-use native.Mathlib.Numerals.{add-one, sub-one}
+use native.Mathlib.Nat.{le_antisymm, sub-zero, suc-sub-suc, not-suc-le-zero, le_of_suc-le-suc}
+use native.Mathlib.Numerals.{add-one}
 use native.Mathlib.Omega.{arith}
 use borrow.Author.Tests.{lt-ltb, le-ltb}
 use lib.ListN.{length, set, take, replicate, replicate-append-replicate}
@@ -36,13 +36,9 @@ module _ (z : Sizes) (cs : List Chunk) (left : ℕ) (c : ChunkNo) where
       go zero = refl
       go (suc n) = rw (le-ltb c.0 z.chunks h)
 
-  pub along-next : 0 < left → c.0 < z.chunks → (x : Chunk) → x ≡ chunk_at cs c → rows_along z cs left c ≡ record { min = x.min; chunk = c } ∷ rows_along z cs (left - 1) x.next
+  pub along-next : (rest : ℕ) → left ≡ rest + 1 → c.0 < z.chunks → (x : Chunk) → x ≡ chunk_at cs c → rows_along z cs left c ≡ record { min = x.min; chunk = c } ∷ rows_along z cs rest x.next
   unfolding chain_from
-  along-next p h x q = go left p
-    where
-      go : (n : ℕ) → 0 < n → rows_along z cs n c ≡ record { min = x.min; chunk = c } ∷ rows_along z cs (n - 1) x.next
-      go zero p = absurd (lt_irrefl _ p)
-      go (suc n) p = rw (lt-ltb c.0 z.chunks h, sub-one, q)
+  along-next rest p h x q = rw (p, add-one rest) (rw (lt-ltb c.0 z.chunks h, q))
 
 -- a row more is written
 taken_more : (l : List IndexRow) (i : ℕ) (x : IndexRow) → i < length l → take (i + 1) (set l i x) ≡ take i l ++ (x ∷ [])
@@ -62,10 +58,10 @@ module _ (size : ℕ) (before : List ℕ) (all : List IndexRow) where
       let one : take (n + 1) (index_rows size then) ≡ take n (index_rows size now) ++ (x ∷ []) = rw (put.rows size) (taken_more (index_rows size now) n x (rw length-rows h)) in
       record { rows = rw (one, append_assoc) (rw q at w.rows); row = put.row ∙ w.row; room = omega arith; long = same ∙ w.long }
 
-  pub writing-done : (now : List ℕ) (rest : List IndexRow) (n : ℕ) → Writing size before now all rest n → rest ≡ [] → Written size before now all n
-  writing-done now rest n w q =
+  pub writing-done : (now : List ℕ) (rest : List IndexRow) (n many : ℕ) → Writing size before now all rest n → rest ≡ [] → many ≡ n → Written size before now all many
+  writing-done now rest n many w q m =
       let whole : take n (index_rows size now) ≡ all = sym (append-nil _) ∙ (rw q at w.rows) in
-      record { rows = whole; counted = sym (length-take-le n (index_rows size now) (rw length-rows w.room)) ∙ ap length whole; room = w.room; row = w.row }
+      rw m (record { rows = whole; counted = sym (length-take-le n (index_rows size now) (rw length-rows w.room)) ∙ ap length whole; room = w.room; row = w.row })
 
 -- ---- rows emptied
 -- so far emptied: the rows before row i are those that stay, and then empty ones

@@ -6,7 +6,7 @@ ghost use Rattle.rules.specs.Rebalance.{gives, indexes};
 ghost use Rattle.rows.specs.Rows.{chunk_rows, tables};
 ghost use Rattle.indexing.specs.Written.{rows_along, Written, Emptied};
 
-use rules::{ChunkNo, IndexRow, Report, Sizes};
+use rules::{ChunkNo, Directory, IndexRow, Report, Sizes};
 
 // A row for each chunk of the chain, from the first on; answers how many.
 fn write_rows(z: Sizes, directory: &mut [u64], chunks: &[u64], first: ChunkNo) -> usize
@@ -15,24 +15,19 @@ fn write_rows(z: Sizes, directory: &mut [u64], chunks: &[u64], first: ChunkNo) -
 {
     let size = z.chunks;
     let mut at = first;
-    let mut n = 0;
-    while n < size {
+    for n in 0..size {
         let x = rows::chunk_at(z, chunks, at);
         if size <= at.0 as usize {
             return n;
         }
-        rows::put_index_row(
-            directory,
-            n,
-            IndexRow {
-                min: x.min,
-                chunk: at,
-            },
-        );
+        let row = IndexRow {
+            min: x.min,
+            chunk: at,
+        };
+        rows::put_index_row(directory, n, row);
         at = x.next;
-        n += 1;
     }
-    n
+    size
 }
 
 // Every row from row `from` on is empty, and none is read.
@@ -40,11 +35,8 @@ pub fn empty_from(z: Sizes, directory: &mut [u64], from: usize)
     requires { (length directory.old ≡ 6 + z.chunks * 2) × (from ≤ z.chunks) }
     ensures { Emptied z.chunks directory.old directory.new from }
 {
-    let size = z.chunks;
-    let mut i = from;
-    while i < size {
+    for i in from..z.chunks {
         rows::put_index_row(directory, i, rows::empty_row());
-        i += 1;
     }
 }
 
@@ -54,12 +46,13 @@ pub fn index(z: Sizes, directory: &mut [u64], chunks: &[u64]) -> Report
     ensures { (ts es vs ms : List ℕ) → gives (tables z directory.new ts chunks.now es vs ms) result ≡ indexes z (tables z directory.old ts chunks.now es vs ms) }
 {
     let d = rows::directory_row(directory);
-    let first = d.first;
-    let n = write_rows(z, directory, chunks, first);
+    let n = write_rows(z, directory, chunks, d.first);
     empty_from(z, directory, n);
-    let mut row = d;
-    row.stage = 5;
-    row.indexed = n as u64;
+    let row = Directory {
+        stage: 5,
+        indexed: n as u64,
+        ..d
+    };
     rows::put_directory_row(directory, row);
     Report::Moved
 }

@@ -21,7 +21,7 @@ use Rattle.rules.proofs.Each.{each-by}
 use Rattle.rows.specs.Rows.{rows_from, entry_of, entry_rows}
 use Rattle.rows.proofs.Laws.{length-rows, row_read, row_below}
 use Rattle.listed.specs.Parts.{bare}
-use Rattle.listed.specs.Plain.{slot_of, GoesUp, AllGoUp, AllEmpty, Plain}
+use Rattle.listed.specs.Plain.{slot_of, AllGoUp, AllEmpty, Plain}
 use Rattle.listed.proofs.Tests.{and_both}
 use Rattle.listed.proofs.Rows.{slots-rows}
 use Rattle.listed.proofs.Lists.{ascends_none}
@@ -79,23 +79,6 @@ module _ (key : ℕ → ℕ) where
 -- a key is below that of the entry that was read
 pub higher : (k : ℕ) (x y : Entry) → x ≡ y → ltb k x.key ≡ true → k < y.key
 higher k x y q h = ltb-true k y.key (subst (λ (w : Entry). ltb k w.key ≡ true) q h)
-
-module _ (z : Sizes) (slot : ℕ → Entry) (used : ℕ) where
-  pub go-none : AllGoUp z slot used 0
-  go-none e h = absurd (not-suc-le-zero h)
-
-  pub go-one : (i : ℕ) → AllGoUp z slot used i → (x : Entry) → x ≡ slot i → GoesUp z slot used x → AllGoUp z slot used (i + 1)
-  go-one i up x q u e h = go (dec_lt e i)
-    where
-      last : (e < i → ⊥) → i ≡ e
-      last m = omega arith
-
-      go : Dec (e < i) → GoesUp z slot used (slot e)
-      go (yes l) = up e l
-      go (no l) = subst (λ (j : ℕ). GoesUp z slot used (slot j)) (last l) (subst (GoesUp z slot used) q u)
-
-  pub go_all : (i : ℕ) → AllGoUp z slot used i → used ≤ i → AllGoUp z slot used used
-  go_all i up h e l = up e (omega arith)
 
 module _ (ws : List ℕ) (from : ℕ) where
   pub empty-none : AllEmpty ws from from

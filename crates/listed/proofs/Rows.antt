@@ -1,7 +1,7 @@
--- One law of `each` over rows: what is left of the test, row by row.
-use Prim.Native.Nat.{ℕ, suc, ◌+◌, ◌*◌, ◌-◌, ◌≤◌, ◌<◌}
-use mathlib.Core.Path.{◌≡◌, sym, ap, ◌∙◌}
-use mathlib.Core.Bool.{Bool, true, false, ◌&&◌}
+-- A chunk's slots as rows by their numbers, and how many of them are used.
+use Prim.Native.Nat.{ℕ, ◌+◌, ◌*◌, ◌≤◌, ◌<◌}
+use mathlib.Core.Path.{◌≡◌, sym, ◌∙◌}
+use mathlib.Core.Bool.{Bool, true, false}
 use mathlib.Core.List.{List}
 use native.Mathlib.Nat.{mul-le-mul_right, suc-mul}
 use native.Mathlib.Omega.{arith}
@@ -15,51 +15,11 @@ use Rattle.rules.specs.declared.Chunk.{Chunk}
 use Rattle.rules.specs.declared.ChunkNo.{ChunkNo}
 use Rattle.rules.specs.Words.{pick, entry_no, unused, retired}
 use Rattle.rules.specs.Tables.{empty_entry, entry_at}
-use Rattle.rules.specs.Shape.{each, slots_of, is_none, numbers, is_empty_chunk, chunk_numbers}
+use Rattle.rules.specs.Shape.{slots_of, is_none, numbers, is_empty_chunk, chunk_numbers}
 use Rattle.rows.specs.Rows.{rows_from}
 use Rattle.rows.proofs.Laws.{length-rows, row_read}
 use Rattle.listed.specs.Parts.{bare, row_right}
-use Rattle.listed.proofs.Tests.{and_is, and-and, and_right, and-true}
-
--- the test of the rows from i on, of n
-abbrev pub rest : {A : Type 0} → (ℕ → A → Bool) → (ℕ → A) → ℕ → ℕ → Bool
-rest p f n i = each p i (rows_from f i (n - i))
-
-module _ {A : Type 0} (p : ℕ → A → Bool) (f : ℕ → A) (n : ℕ) where
-  pub each_start : each p 0 (rows_from f 0 n) ≡ rest p f n 0
-  each_start = let e : n - 0 ≡ n = omega arith in rw e
-
-module _ {A : Type 0} (p : ℕ → A → Bool) (f : ℕ → A) (n i : ℕ) where
-  turn : i < n → rest p f n i ≡ pick (p i (f i)) (rest p f n (i + 1)) false
-  unfolding each rows_from
-  turn h =
-      let e : n - i ≡ suc (n - (i + 1)) = omega arith in
-      rw e
-
-  pub each-end : n ≤ i → rest p f n i ≡ true
-  unfolding each rows_from
-  each-end h = let e : n - i ≡ 0 = omega arith in rw e
-
-  -- the row that was read, and what its test gave
-  pub each-fails : i < n → (x : A) → x ≡ f i → p i x ≡ false → rest p f n i ≡ false
-  each-fails h x e q = turn h ∙ ap (λ (b : Bool). pick b (rest p f n (i + 1)) false) (ap (p i) (sym e) ∙ q)
-
-  pub each-passes : i < n → (x : A) → x ≡ f i → p i x ≡ true → rest p f n i ≡ rest p f n (i + 1)
-  each-passes h x e q = turn h ∙ ap (λ (b : Bool). pick b (rest p f n (i + 1)) false) (ap (p i) (sym e) ∙ q)
-
-  -- what the rows before gave, gathered, and the row that was read
-  pub each-gathers : i < n → (ok : Bool) (x : A) → x ≡ f i → pick ok (rest p f n i) false ≡ pick (ok && p i x) (rest p f n (i + 1)) false
-  each-gathers h ok x e =
-      ap (λ (b : Bool). pick ok b false) (turn h ∙ ap (λ (y : A). pick (p i y) (rest p f n (i + 1)) false) (sym e))
-      ∙ sym (and-and ok (p i x) (rest p f n (i + 1)))
-      ∙ ap (λ (b : Bool). pick b (rest p f n (i + 1)) false) (sym (and_is ok (p i x)))
-
-  pub each-gathered : n ≤ i → (ok : Bool) → pick ok (rest p f n i) false ≡ ok
-  each-gathered h ok = ap (λ (b : Bool). pick ok b false) (each-end h) ∙ and-true ok
-
--- a list is the rows that are read of it
-pub list-rows : {A : Type 0} (l : List A) (d : A) → l ≡ rows_from (λ i. get_or l i d) 0 (length l)
-list-rows l d = ext_get_or d l _ (sym (length-rows _ 0 (length l))) (λ i h. sym (row_read (λ i. get_or l i d) (length l) i d h))
+use Rattle.listed.proofs.Tests.{and_right}
 
 -- a chunk's slots are the entries that are read by their numbers
 pub slots-rows : (z : Sizes) (es : List Entry) (c : ChunkNo) → length es ≡ z.chunks * z.entries → c.0 < z.chunks → slots_of z es c ≡ rows_from (λ e. entry_at z es c (entry_no e)) 0 z.entries

@@ -19,6 +19,10 @@ pub and-true : (a : Bool) → pick a true false ≡ a
 and-true true = refl
 and-true false = refl
 
+pub and-false : (a : Bool) → pick a false false ≡ false
+and-false true = refl
+and-false false = refl
+
 pub and_left : (a b : Bool) → pick a b false ≡ true → a ≡ true
 and_left true b h = refl
 and_left false b h = h
@@ -37,9 +41,6 @@ and-gives a b t h = sym (and_is a b) ∙ h
 -- what a test by `|` gave
 pub or-gives : (a b t : Bool) → a || b ≡ t → pick a true b ≡ t
 or-gives a b t h = sym (or_is a b) ∙ h
-
-pub and-six : (a b c d e f : Bool) → a && b && c && d && e && f ≡ pick a (pick b (pick c (pick d (pick e f false) false) false) false) false
-and-six a b c d e f = simp (and_is, and-and)
 
 -- two tests before a third, made together
 pub both-fail : (a b c : Bool) → a && b ≡ false → pick a (pick b c false) false ≡ false

@@ -2,14 +2,15 @@
 // A row's own words are tested all; what reads on comes after the tests that let it.
 #![tactic(auto)]
 
-ghost use Rattle.std.specs.Prelude.{true, ◌≡◌, ◌+◌, ◌*◌, ◌≤◌, length, leb};
-ghost use Rattle.rules.specs.Words.{chunk_no};
+ghost use Rattle.std.specs.Prelude.{true, ◌≡◌, ◌+◌, ◌*◌, ◌<◌, ◌≤◌, length, leb};
 ghost use Rattle.rules.specs.Shape.{numbers, is_empty_entry, is_empty_chunk, each, slots_of, slot_right, chunk_right, ascends_from, chain_count, chained};
-ghost use Rattle.rows.specs.Rows.{chunk_rows, entry_rows};
-ghost use Rattle.listed.specs.Parts.{bare, listed, headed, row_right, least, count_of, Slots};
+ghost use Rattle.rows.specs.Rows.{chunk_rows};
+ghost use Rattle.rows.specs.Seen.{seen};
+ghost use Rattle.listed.specs.Parts.{bare, row_right, least, counted, count_of};
 ghost use Rattle.listed.specs.Plain.{slot_of, GoesUp, AllGoUp, AllEmpty, Plain};
 
-use rules::{Chunk, ChunkNo, Directory, Entry, EntryNo, NONE, Sizes};
+use rows::Lent;
+use rules::{Chunk, ChunkNo, Entry, EntryNo, HandleNo, NONE, Sizes};
 
 // ---- rows
 
@@ -20,33 +21,28 @@ pub fn in_table(size: usize, n: u64) -> bool
     ((n as usize) < size) | (n == NONE)
 }
 
-// The row of an unused slot.
+// The row of an unused slot; by `==`, which branches at each field, the shape of a fresh directory takes 1.4 times as long.
 fn is_empty_entry(x: Entry) -> bool
     ensures { result ≡ is_empty_entry x }
 {
-    (x.key == 0) & (x.handle.0 == NONE) & (x.next.0 == NONE)
+    (x.key == 0) & (x.handle == HandleNo(NONE)) & (x.next == EntryNo(NONE))
 }
 
 // The row of an unused chunk.
 fn is_empty_chunk(x: Chunk) -> bool
     ensures { result ≡ is_empty_chunk x }
 {
-    (x.status == 0)
-        & (x.frozen == 0)
-        & (x.min == 0)
-        & (x.next.0 == NONE)
-        & (x.head.0 == NONE)
-        & (x.used == 0)
+    x == rows::empty_chunk()
 }
 
 // A chunk's own row.
 fn row_right(z: Sizes, x: Chunk) -> bool
     ensures { result ≡ row_right z x }
 {
-    if x.status == 0 {
+    if x.status == Chunk::UNUSED {
         return is_empty_chunk(x);
     }
-    (x.status <= 3)
+    (x.status <= Chunk::RETIRED)
         & (x.frozen <= 1)
         & in_table(z.chunks, x.next.0)
         & in_table(z.entries, x.head.0)
@@ -67,20 +63,14 @@ fn slot_right(z: Sizes, used: u64, e: usize, x: Entry) -> bool
 // ---- the chunks
 
 // Every slot of chunk `c`.
-fn slots_right(z: Sizes, entries: &[u64], c: ChunkNo, used: u64) -> bool
-    requires { Slots z entries.now c }
-    ensures { result ≡ each (slot_right z (bare z) used) 0 (slots_of z (entry_rows (z.chunks * z.entries) entries.now) c) }
+fn slots_right(s: &Lent, c: ChunkNo, used: u64) -> bool
+    requires { c.0 < s.now.z.chunks }
+    ensures { result ≡ each (slot_right s.now.z (seen s.now) used) 0 (slots_of s.now.z (seen s.now).entries c) }
 {
-    let size = z.entries;
-    let mut i = 0;
-    while i < size {
-        let x = rows::entry_at(z, entries, c, EntryNo(i as u64));
-        if !slot_right(z, used, i, x) {
-            return false;
-        }
-        i += 1;
-    }
-    true
+    (0..s.z.entries).all(|i| {
+        let x = rows::entry_at(s.z, s.entries, c, EntryNo(i as u64));
+        slot_right(s.z, used, i, x)
+    })
 }
 
 // The entry's handle is one or none, and it is the last, or a used entry of a higher key comes next.
@@ -95,7 +85,7 @@ fn goes_up(z: Sizes, entries: &[u64], first: usize, used: u64, x: Entry) -> bool
         let y = rows::entry_row(entries, first + x.next.0 as usize);
         return x.key < y.key;
     }
-    x.next.0 == NONE
+    x.next == EntryNo(NONE)
 }
 
 // So does every used slot, from row `first` on.
@@ -103,14 +93,11 @@ fn all_go_up(z: Sizes, entries: &[u64], first: usize, used: u64) -> bool
     requires { (first + used) * 3 ≤ length entries.now }
     ensures { result ≡ true → AllGoUp z (slot_of entries.now first) used used }
 {
-    let size = used as usize;
-    let mut i = 0;
-    while i < size {
+    for i in 0..used as usize {
         let x = rows::entry_row(entries, first + i);
         if !goes_up(z, entries, first, used, x) {
             return false;
         }
-        i += 1;
     }
     true
 }
@@ -120,15 +107,7 @@ fn few_empty(entries: &[u64], from: usize, to: usize) -> bool
     requires { to * 3 ≤ length entries.now }
     ensures { result ≡ true → AllEmpty entries.now from to }
 {
-    let mut i = from;
-    while i < to {
-        let x = rows::entry_row(entries, i);
-        if !is_empty_entry(x) {
-            return false;
-        }
-        i += 1;
-    }
-    true
+    (from..to).all(|i| is_empty_entry(rows::entry_row(entries, i)))
 }
 
 // Four rows from row `i` on are such.
@@ -143,137 +122,104 @@ fn four_empty(entries: &[u64], i: usize) -> bool
     one & two & three & four
 }
 
-// The same of many rows, eight in a turn.
+// The same of many rows, eight in a turn: with few keys the shape reads mostly these rows, and a way out at each would keep them from vectors.
 fn all_empty(entries: &[u64], from: usize, to: usize) -> bool
     requires { (from ≤ to) × (to * 3 ≤ length entries.now) }
     ensures { result ≡ true → AllEmpty entries.now from to }
 {
-    let mut i = from;
-    while 8 <= to - i {
+    let turns = (to - from) / 8;
+    for turn in 0..turns {
+        let i = from + turn * 8;
         if !(four_empty(entries, i) & four_empty(entries, i + 4)) {
             return false;
         }
-        i += 8;
     }
-    few_empty(entries, i, to)
+    few_empty(entries, from + turns * 8, to)
 }
 
 // The chunk's slots and list are right, seen without a walk along the list; a right chunk may fail, by a slot that no list reaches.
-fn is_plain(z: Sizes, entries: &[u64], c: ChunkNo, used: u64, head: EntryNo) -> bool
-    requires { Slots z entries.now c × (used ≤ z.entries) }
-    ensures { result ≡ true → Plain z (entry_rows (z.chunks * z.entries) entries.now) c used head }
+fn is_plain(s: &Lent, c: ChunkNo, used: u64, head: EntryNo) -> bool
+    requires { (c.0 < s.now.z.chunks) × (used ≤ s.now.z.entries) }
+    ensures { result ≡ true → Plain s.now.z (seen s.now).entries c used head }
 {
-    let first = rows::first_number(z, c);
-    if !in_table(used as usize, head.0) {
-        return false;
-    }
-    if !all_empty(entries, first + used as usize, first + z.entries) {
-        return false;
-    }
-    all_go_up(z, entries, first, used)
+    let first = rows::first_number(s.z, c);
+    in_table(used as usize, head.0)
+        && all_empty(s.entries, first + used as usize, first + s.z.entries)
+        && all_go_up(s.z, s.entries, first, used)
 }
 
 // The key may follow: at the start any may, and then one above the last.
-pub fn follows(start: bool, last: u64, key: u64) -> bool
-    ensures { result ≡ leb (least start last) key }
+pub fn follows(last: Option<u64>, key: u64) -> bool
+    ensures { result ≡ leb (least last) key }
 {
-    start | (last < key)
+    last.is_none_or(|l| l < key)
 }
 
 // The chunk's list ends, is of used entries, and its keys ascend.
-fn ascends(z: Sizes, entries: &[u64], c: ChunkNo, used: u64, head: EntryNo) -> bool
-    requires { Slots z entries.now c × (used ≤ z.entries) }
-    ensures { result ≡ ascends_from z (entry_rows (z.chunks * z.entries) entries.now) c used z.entries head 0 }
+fn ascends(s: &Lent, c: ChunkNo, used: u64, head: EntryNo) -> bool
+    requires { (c.0 < s.now.z.chunks) × (used ≤ s.now.z.entries) }
+    ensures { result ≡ ascends_from s.now.z (seen s.now).entries c used s.now.z.entries head 0 }
 {
     let mut at = head;
-    let mut left = z.entries;
-    let mut start = true;
-    let mut last = 0;
-    while 0 < left {
-        if at.0 == NONE {
+    let mut last = None;
+    for _ in 0..s.z.entries {
+        if at == EntryNo(NONE) {
             return true;
         }
         if used <= at.0 {
             return false;
         }
-        let x = rows::entry_at(z, entries, c, at);
-        if !follows(start, last, x.key) {
+        let x = rows::entry_at(s.z, s.entries, c, at);
+        if !follows(last, x.key) {
             return false;
         }
-        start = false;
-        last = x.key;
+        last = Some(x.key);
         at = x.next;
-        left -= 1;
     }
-    at.0 == NONE
+    at == EntryNo(NONE)
 }
 
 // Chunk `n`, whose row is `x`, and its slots.
-fn chunk_right(z: Sizes, entries: &[u64], n: usize, x: Chunk) -> bool
-    requires { Slots z entries.now (chunk_no n) }
-    ensures { result ≡ chunk_right z (listed z entries.now) n x }
+fn chunk_right(s: &Lent, n: usize, x: Chunk) -> bool
+    requires { n < s.now.z.chunks }
+    ensures { result ≡ chunk_right s.now.z (seen s.now) n x }
 {
     let c = ChunkNo(n as u64);
-    if !row_right(z, x) {
-        return false;
-    }
-    if is_plain(z, entries, c, x.used, x.head) {
-        return true;
-    }
-    if !slots_right(z, entries, c, x.used) {
-        return false;
-    }
-    ascends(z, entries, c, x.used, x.head)
+    row_right(s.z, x)
+        && (is_plain(s, c, x.used, x.head)
+            || slots_right(s, c, x.used) && ascends(s, c, x.used, x.head))
 }
 
 // Every chunk.
-pub fn chunks_right(z: Sizes, chunks: &[u64], entries: &[u64]) -> bool
-    requires { (length chunks.now ≡ z.chunks * 6) × (length entries.now ≡ z.chunks * z.entries * 3) }
-    ensures { result ≡ each (chunk_right z (listed z entries.now)) 0 (chunk_rows z.chunks chunks.now) }
+pub fn chunks_right(s: &Lent) -> bool
+    ensures { result ≡ each (chunk_right s.now.z (seen s.now)) 0 (seen s.now).chunks }
 {
-    let size = z.chunks;
-    let mut i = 0;
-    while i < size {
-        let x = rows::chunk_row(chunks, i);
-        if !chunk_right(z, entries, i, x) {
-            return false;
-        }
-        i += 1;
-    }
-    true
+    (0..s.z.chunks).all(|i| chunk_right(s, i, rows::chunk_row(s.chunks, i)))
 }
 
 // ---- the chain
 
-// How many live chunks stand in the chain from the first on, or past the table's size where it breaks.
-fn chain_count(z: Sizes, chunks: &[u64], first: ChunkNo) -> usize
-    requires { length chunks.now ≡ z.chunks * 6 }
-    ensures { result ≡ chain_count z (chunk_rows z.chunks chunks.now) z.chunks first 0 0 }
+// How many live chunks stand in the chain from the first on, or none where it breaks.
+fn chain_count(s: &Lent, first: ChunkNo) -> Option<usize>
+    ensures { counted s.now.z result ≡ chain_count s.now.z (seen s.now).chunks s.now.z.chunks first 0 0 }
 {
-    let past = z.chunks + 1;
     let mut at = first;
-    let mut left = z.chunks;
-    let mut n = 0;
-    let mut start = true;
-    let mut last = 0;
-    while 0 < left {
-        let x = rows::chunk_at(z, chunks, at);
-        if z.chunks <= at.0 as usize {
-            return past;
+    let mut last = None;
+    for n in 0..s.z.chunks {
+        let x = rows::chunk_at(s.z, s.chunks, at);
+        if s.z.chunks <= at.0 as usize {
+            return None;
         }
-        if !((x.status == 1) & follows(start, last, x.min)) {
-            return past;
+        if !((x.status == Chunk::LIVE) & follows(last, x.min)) {
+            return None;
         }
-        n += 1;
-        if x.next.0 == NONE {
-            return n;
+        if x.next == ChunkNo(NONE) {
+            return Some(n + 1);
         }
-        start = false;
-        last = x.min;
+        last = Some(x.min);
         at = x.next;
-        left -= 1;
     }
-    past
+    None
 }
 
 // How many chunks have the status.
@@ -281,26 +227,18 @@ pub fn status_count(z: Sizes, chunks: &[u64], status: u64) -> usize
     requires { length chunks.now ≡ z.chunks * 6 }
     ensures { result ≡ count_of status (chunk_rows z.chunks chunks.now) }
 {
-    let size = z.chunks;
-    let mut n = 0;
-    let mut i = 0;
-    while i < size {
-        let x = rows::chunk_row(chunks, i);
-        i += 1;
-        if x.status == status {
-            n += 1;
-        }
-    }
-    n
+    (0..z.chunks)
+        .filter(|i| rows::chunk_row(chunks, *i).status == status)
+        .count()
 }
 
 // The chain from the first live chunk holds every live chunk, from key 0.
-pub fn chain_right(z: Sizes, chunks: &[u64], d: Directory) -> bool
-    requires { length chunks.now ≡ z.chunks * 6 }
-    ensures { result ≡ chained z (headed z d chunks.now) }
+pub fn chain_right(s: &Lent) -> bool
+    ensures { result ≡ chained s.now.z (seen s.now) }
 {
-    let x = rows::chunk_at(z, chunks, d.first);
-    let n = chain_count(z, chunks, d.first);
-    let live = status_count(z, chunks, 1);
-    (x.min == 0) & (n == live)
+    let d = rows::directory_row(s.directory);
+    let x = rows::chunk_at(s.z, s.chunks, d.first);
+    let n = chain_count(s, d.first);
+    let live = status_count(s.z, s.chunks, Chunk::LIVE);
+    (x.min == 0) & (n == Some(live))
 }

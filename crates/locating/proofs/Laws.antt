@@ -1,10 +1,9 @@
 -- What the shape says of the index's rows, one step of each search, and that the chunk where the index leads starts the walk.
-use Prim.Native.Nat.{ℕ, zero, suc, ◌+◌, ◌-◌, ◌≤◌, ◌<◌, zero-le}
+use Prim.Native.Nat.{ℕ, zero, suc, ◌+◌, ◌≤◌, ◌<◌, zero-le}
 use mathlib.Core.Path.{◌≡◌, refl, ap, ◌∙◌}
 use mathlib.Core.Bool.{true}
 use mathlib.Core.List.{List, [], ◌∷◌}
 use native.Mathlib.Nat.{not-suc-le-zero, le_of_suc-le-suc, le_antisymm}
-use native.Mathlib.Decide.{ℕ_discrete}
 use native.Mathlib.Omega.{arith}
 use lib.Dec.{eqb, ltb, leb}
 use lib.ListN.{length, get_or}
@@ -109,32 +108,22 @@ pub record Halved (d : List ℕ) (many k low high : ℕ) : Type 0 where
   pub below : (i : ℕ) → i < low → (index_of d i).min ≤ k
   pub above : (i : ℕ) → high ≤ i → i < many → k < (index_of d i).min
 
-module _ (d : List ℕ) (many k low high : ℕ) (h : Halved d many k low high) (rises : Rises d many) (m : ℕ) (from : low ≤ m) (to : m < high) (x : IndexRow) (q : x ≡ index_of d m) where
-  min : x.min ≡ (index_of d m).min
-  min = ap (λ (x : IndexRow). x.min) q
-
-  pub halved-low : x.min ≤ k → Halved d many k (m + 1) high
-  halved-low le = record { ordered = omega arith; within = h.within; below = λ i b. elim (ℕ_discrete i m) [ yes e ↦ rw (e, ← min) le | no ne ↦ omega (arith, min, rises i m (omega arith) (omega arith)) ]; above = h.above }
-
-  pub halved-high : k < x.min → Halved d many k low m
-  halved-high lt = record { ordered = from; within = omega arith; below = h.below; above = λ i b a. elim (ℕ_discrete i m) [ yes e ↦ rw (e, ← min) lt | no ne ↦ omega (arith, min, rises m i (omega arith) a) ] }
-
 -- ---- one step down the rows, told by the row and the chunk that the code has read
 module _ (d : List ℕ) (cs : List Chunk) where
   pub live-none : (n : ℕ) → n ≤ 0 → last_live d cs n ≡ (directory_of d).first
   unfolding last_live
   live-none n b = rw (le_antisymm b zero-le)
 
-  live-step : (n : ℕ) → 0 < n → last_live d cs n ≡ pick (eqb (chunk_at cs (index_of d (n - 1)).chunk).status live) (index_of d (n - 1)).chunk (last_live d cs (n - 1))
+  live-step : (n rest : ℕ) → n ≡ rest + 1 → last_live d cs n ≡ pick (eqb (chunk_at cs (index_of d rest).chunk).status live) (index_of d rest).chunk (last_live d cs rest)
   unfolding last_live
   live-step = fuelled (last_live d cs) (λ m. pick (eqb (chunk_at cs (index_of d m).chunk).status live) (index_of d m).chunk (last_live d cs m)) (λ m. refl)
 
-  module _ (n : ℕ) (some : 0 < n) (x : IndexRow) (q : x ≡ index_of d (n - 1)) (y : Chunk) (p : y ≡ chunk_at cs x.chunk) where
-    number : x.chunk.0 ≡ (index_of d (n - 1)).chunk.0
+  module _ (n rest : ℕ) (some : n ≡ rest + 1) (x : IndexRow) (q : x ≡ index_of d rest) (y : Chunk) (p : y ≡ chunk_at cs x.chunk) where
+    number : x.chunk.0 ≡ (index_of d rest).chunk.0
     number = ap (λ (x : IndexRow). x.chunk.0) q
 
     pub live_here : y.status ≡ live → last_live d cs n ≡ x.chunk
-    live_here e = live-step n some ∙ rw (← number, ← p, e)
+    live_here e = live-step n rest some ∙ rw (← number, ← p, e)
 
-    pub live-next : (y.status ≡ live → ⊥) → last_live d cs n ≡ last_live d cs (n - 1)
-    live-next e = live-step n some ∙ rw (← number, ← p, ne_eqb _ _ e)
+    pub live-next : (y.status ≡ live → ⊥) → last_live d cs n ≡ last_live d cs rest
+    live-next e = live-step n rest some ∙ rw (← number, ← p, ne_eqb _ _ e)

@@ -5,12 +5,12 @@ use mathlib.Core.List.{List, [], ◌∷◌, ◌++◌}
 use native.Mathlib.Nat.{le_antisymm}
 use native.Mathlib.Numerals.{add-one}
 use native.Mathlib.Omega.{arith}
-use lib.ListN.{length, get_or, set, take, replicate, get_or-replicate, replicate-append-replicate}
-use lib.Seq.{take-suc-set, take-length, length-take-le, get_or-append-add}
+use lib.ListN.{length, get_or, set, take, replicate, get_or-append, get_or-replicate, replicate-append-replicate}
+use lib.Seq.{take-suc-set, take-length, length-take-le, get_or-append-add, get_or-take}
 use Rattle.rules.specs.declared.Sizes.{Sizes}
 use Rattle.rules.specs.Words.{NONE, entry_no, no_entry}
 use Rattle.rules.specs.Tables.{empty_stack}
-use Rattle.rows.specs.Rows.{rows_from, stack_of, stack_rows}
+use Rattle.rows.specs.Rows.{rows_from, task_of, stack_of, task_rows, stack_rows}
 use Rattle.rows.proofs.Laws.{row-alike, row_below}
 
 module _ {A : Type 0} (x : A) where
@@ -47,3 +47,16 @@ stacks-empty z ws vs long q = rows_all (empty_stack z) (stack_of z vs) z.tasks (
         ∙ ap (λ (n : ℕ). get_or (take (z.tasks * 11) ws ++ replicate (length ws - z.tasks * 11) NONE) (n + r) 0) (sym first)
         ∙ get_or-append-add (take (z.tasks * 11) ws) (replicate (length ws - z.tasks * 11) NONE) r 0
         ∙ get_or-replicate (length ws - z.tasks * 11) r NONE 0 (omega (arith, long))
+
+-- the tasks' rows stay where the words of the rows do
+pub tasks-kept : (n : ℕ) (ws vs us : List ℕ) → n * 11 ≤ length ws → vs ≡ take (n * 11) ws ++ us → task_rows n vs ≡ task_rows n ws
+tasks-kept n ws vs us long q = row-alike (task_of vs) (task_of ws) n (λ i h. row i (omega arith))
+  where
+    word : (r : ℕ) → r < n * 11 → get_or vs r 0 ≡ get_or ws r 0
+    word r h =
+        ap (λ (l : List ℕ). get_or l r 0) q
+        ∙ get_or-append (take (n * 11) ws) us 0 r (rw (length-take-le (n * 11) ws long) h)
+        ∙ get_or-take (n * 11) ws r 0 h
+
+    row : (i : ℕ) → i * 11 + 11 ≤ n * 11 → task_of vs i ≡ task_of ws i
+    row i h = rw (word (i * 11) (omega arith), word (i * 11 + 1) (omega arith), word (i * 11 + 2) (omega arith), word (i * 11 + 3) (omega arith), word (i * 11 + 4) (omega arith), word (i * 11 + 5) (omega arith), word (i * 11 + 6) (omega arith), word (i * 11 + 7) (omega arith), word (i * 11 + 8) (omega arith), word (i * 11 + 9) (omega arith), word (i * 11 + 10) (omega arith))

@@ -1,48 +1,81 @@
 // The fresh directory, made over whatever the tables held.
 #![tactic(auto)]
 
-ghost use Rattle.std.specs.Prelude.{◌≡◌, ◌++◌, ◌+◌, ◌*◌, ◌-◌, ◌≤◌, length, take, replicate};
+ghost use Rattle.std.specs.Prelude.{◌≡◌, ℕ, List, ◌++◌, ◌+◌, ◌*◌, ◌-◌, ◌≤◌, length, take, replicate, set};
 ghost use Rattle.rules.specs.declared.Sizes.{Sizes};
 ghost use Rattle.rules.specs.Tables.{idle_task, empty_chunk, empty_entry, empty_stack};
 ghost use Rattle.rules.specs.Calls.{fresh_directory, fresh};
 ghost use Rattle.making.specs.Clearing.{every_other};
-ghost use Rattle.rows.specs.Rows.{directory_of, index_rows, task_rows, chunk_rows, entry_rows, stack_rows, as_left, Lends};
+ghost use Rattle.rows.specs.Rows.{directory_of, task_of, chunk_of, entry_of, index_rows, task_rows, chunk_rows, entry_rows, stack_rows, as_left, Lends};
+ghost use Rattle.rows.proofs.Laws.{length-rows};
 
-use rules::{ChunkNo, Directory, IndexRow, NONE, Sizes};
+use rules::{Chunk, ChunkNo, Directory, Entry, IndexRow, NONE, Sizes, Task};
 
-// The first `n` tasks are idle; what stands past every task's row stays.
-pub fn idle_tasks(n: usize, tasks: &mut [u64])
-    requires { n * 11 ≤ length tasks.old }
-    ensures { (task_rows n tasks.new ≡ replicate n idle_task) × ((z : Sizes) → n ≤ z.tasks → stack_rows z tasks.new ≡ stack_rows z tasks.old) }
-{
-    let mut i = 0;
-    while i < n {
-        rows::put_task_row(tasks, i, rows::idle_task());
-        i += 1;
-    }
+// A row of a table, of which a fresh directory has one kind.
+trait Row {
+    ghost width: { ℕ };
+
+    ghost rows: { ℕ → List ℕ → List Self };
+
+    ghost fresh: { Self };
+
+    // Row `i` of the table is the fresh one.
+    fn put_fresh(words: &mut [u64], i: usize)
+        requires { i * width + width ≤ length words.old }
+        ensures { (n : ℕ) → rows n words.new ≡ set (rows n words.old) i fresh };
+
+    ghost counted: { (n : ℕ) (ws : List ℕ) → length (rows n ws) ≡ n };
 }
 
-// The first `n` chunks are empty.
-pub fn empty_chunks(n: usize, chunks: &mut [u64])
-    requires { n * 6 ≤ length chunks.old }
-    ensures { chunk_rows n chunks.new ≡ replicate n empty_chunk }
-{
-    let mut i = 0;
-    while i < n {
-        rows::put_chunk_row(chunks, i, rows::empty_chunk());
-        i += 1;
+impl Row for Task {
+    ghost width = { 11 };
+
+    ghost rows = { task_rows };
+
+    ghost fresh = { idle_task };
+
+    fn put_fresh(words: &mut [u64], i: usize) {
+        rows::put_task_row(words, i, rows::idle_task());
     }
+
+    ghost counted = { λ n ws. length-rows (task_of ws) 0 n };
 }
 
-// The first `n` entries are empty.
-pub fn empty_entries(n: usize, entries: &mut [u64])
-    requires { n * 3 ≤ length entries.old }
-    ensures { entry_rows n entries.new ≡ replicate n empty_entry }
+impl Row for Chunk {
+    ghost width = { 6 };
+
+    ghost rows = { chunk_rows };
+
+    ghost fresh = { empty_chunk };
+
+    fn put_fresh(words: &mut [u64], i: usize) {
+        rows::put_chunk_row(words, i, rows::empty_chunk());
+    }
+
+    ghost counted = { λ n ws. length-rows (chunk_of ws) 0 n };
+}
+
+impl Row for Entry {
+    ghost width = { 3 };
+
+    ghost rows = { entry_rows };
+
+    ghost fresh = { empty_entry };
+
+    fn put_fresh(words: &mut [u64], i: usize) {
+        rows::put_entry_row(words, i, rows::empty_entry());
+    }
+
+    ghost counted = { λ n ws. length-rows (entry_of ws) 0 n };
+}
+
+// The first `n` rows are fresh.
+fn put_rows<R: Row>(n: usize, words: &mut [u64])
+    requires { n * R.width ≤ length words.old }
+    ensures { R.rows n words.new ≡ replicate n R.fresh }
 {
-    let mut i = 0;
-    while i < n {
-        rows::put_entry_row(entries, i, rows::empty_entry());
-        i += 1;
+    for i in 0..n {
+        R::put_fresh(words, i);
     }
 }
 
@@ -50,10 +83,8 @@ pub fn empty_entries(n: usize, entries: &mut [u64])
 fn every_other(v: u64, from: usize, words: &mut [u64])
     ensures { words.new ≡ every_other v from words.old }
 {
-    let mut i = from;
-    while i < words.len() {
+    for i in (from..words.len()).step_by(2) {
         words[i] = v;
-        i += 2;
     }
 }
 
@@ -72,9 +103,9 @@ pub fn clear_tasks(z: Sizes, tasks: &mut [u64])
     requires { length tasks.old ≡ z.tasks * 11 + z.tasks * z.entries }
     ensures { (task_rows z.tasks tasks.new ≡ replicate z.tasks idle_task) × (stack_rows z tasks.new ≡ replicate z.tasks (empty_stack z)) }
 {
+    put_rows::<Task>(z.tasks, tasks);
     let first = z.tasks * rows::TASK_WORDS;
     fill(NONE, first, tasks);
-    idle_tasks(z.tasks, tasks);
 }
 
 // No rebalance is under way, and the index has one row, for chunk 0; no word is read.
@@ -84,17 +115,13 @@ pub fn clear_directory(z: Sizes, directory: &mut [u64])
 {
     rows::put_directory_row(directory, Directory::fresh());
     indexing::empty_from(z, directory, 0);
-    if z.chunks == 0 {
-        return;
-    }
-    rows::put_index_row(
-        directory,
-        0,
-        IndexRow {
+    if 0 < z.chunks {
+        let row = IndexRow {
             min: 0,
             chunk: ChunkNo(0),
-        },
-    );
+        };
+        rows::put_index_row(directory, 0, row);
+    }
 }
 
 // Chunk 0 is live; all else is unused and idle.
@@ -112,11 +139,13 @@ pub fn make(
 {
     clear_directory(z, directory);
     clear_tasks(z, tasks);
-    empty_chunks(z.chunks, chunks);
-    let mut first = rows::empty_chunk();
-    first.status = 1;
+    put_rows::<Chunk>(z.chunks, chunks);
+    let first = Chunk {
+        status: Chunk::LIVE,
+        ..rows::empty_chunk()
+    };
     rows::put_chunk(z, chunks, ChunkNo(0), first);
-    empty_entries(z.chunks * z.entries, entries);
+    put_rows::<Entry>(z.chunks * z.entries, entries);
     fill(0, 0, values);
     fill(0, 0, marks);
 }

@@ -1,103 +1,42 @@
 // What a stage's outcome is made of (document 01, "Stages of a task"): a task's row afterwards, and the decision.
 #![tactic(auto)]
 
-ghost use Rattle.std.specs.Prelude.{◌≡◌, Bool, List, ℕ};
+mod read;
+
+ghost use Rattle.std.specs.Prelude.{◌≡◌, get_or};
 ghost use Rattle.rules.specs.declared.Write.TheVariants as write;
+ghost use Rattle.rules.specs.declared.Report.TheVariants as report;
 ghost use Rattle.rules.specs.declared.Sizes.{Sizes};
-ghost use Rattle.rules.specs.Words.{inserts};
+ghost use Rattle.rules.specs.Words.{inserts, no_chunk, no_entry, no_handle};
 ghost use Rattle.rules.specs.Tables.{Tables};
-ghost use Rattle.rules.specs.Stages.{goes_to, keeps, with_ends, moves, restarts, finishes, finishes_absent, gives_back, stays};
-ghost use Rattle.rows.specs.Rows.{tables};
+ghost use Rattle.rules.specs.Stages.{goes_to, moves, restarts, finishes, finishes_absent, stays};
 
-use rules::{ChunkNo, Decision, EntryNo, HandleNo, NONE, Report, Task, Write};
+pub use read::Read;
+use rules::{ChunkNo, Decision, EntryNo, HandleNo, NONE, Operation, Refusal, Report, Task, Write};
 
-// The operation goes on at a stage, holding what is named.
-pub fn goes_to(
-    t: Task,
-    stage: u64,
-    chunk: ChunkNo,
-    entry: EntryNo,
-    old: HandleNo,
-    new: HandleNo,
-    published: u64,
-    swapped: u64,
-) -> Task
-    ensures { result ≡ goes_to t stage chunk entry old new published swapped }
+// A stage moves on, and its task's row is this one.
+pub fn moves(task: Task, w: Write) -> Decision
+    ensures { result ≡ moves task w }
+{
+    Decision {
+        task,
+        write: w,
+        report: Report::Moved,
+    }
+}
+
+// The operation goes on at a stage, with an entry of its chunk and no handle.
+pub fn with_entry(t: Task, stage: u64, entry: EntryNo) -> Task
+    ensures { result ≡ goes_to t stage t.chunk entry no_handle no_handle 0 0 }
 {
     Task {
         stage,
-        operation: t.operation,
-        function: t.function,
-        key: t.key,
-        argument: t.argument,
-        chunk,
         entry,
-        old,
-        new,
-        published,
-        swapped,
-    }
-}
-
-// The same holds, at another stage.
-pub fn keeps(t: Task, stage: u64) -> Task
-    ensures { result ≡ keeps t stage }
-{
-    let mut next = t;
-    next.stage = stage;
-    next
-}
-
-// A scan has these ends left.
-pub fn with_ends(t: Task, cursor: u64, upper: u64) -> Task
-    ensures { result ≡ with_ends t cursor upper }
-{
-    let mut next = t;
-    next.key = cursor;
-    next.argument = upper;
-    next
-}
-
-// A stage moves on, holding what is named.
-pub fn moves_to(
-    t: Task,
-    stage: u64,
-    chunk: ChunkNo,
-    entry: EntryNo,
-    old: HandleNo,
-    new: HandleNo,
-    published: u64,
-    swapped: u64,
-    w: Write,
-) -> Decision
-    ensures { result ≡ moves (goes_to t stage chunk entry old new published swapped) w }
-{
-    Decision {
-        task: goes_to(t, stage, chunk, entry, old, new, published, swapped),
-        write: w,
-        report: Report::Moved,
-    }
-}
-
-// A stage moves on, holding the same.
-pub fn moves_keeping(t: Task, stage: u64, w: Write) -> Decision
-    ensures { result ≡ moves (keeps t stage) w }
-{
-    Decision {
-        task: keeps(t, stage),
-        write: w,
-        report: Report::Moved,
-    }
-}
-
-// A scan moves on, with these ends left.
-pub fn moves_ends(t: Task, cursor: u64, upper: u64, answer: Report) -> Decision
-    ensures { result ≡ record { task = with_ends t cursor upper; write = write.Nothing; report = answer } }
-{
-    Decision {
-        task: with_ends(t, cursor, upper),
-        write: Write::Nothing,
-        report: answer,
+        old: HandleNo(NONE),
+        new: HandleNo(NONE),
+        published: 0,
+        swapped: 0,
+        ..t
     }
 }
 
@@ -106,18 +45,33 @@ pub fn restarts(t: Task, why: Report) -> Decision
     ensures { result ≡ restarts t why }
 {
     Decision {
-        task: goes_to(
-            t,
-            1,
-            ChunkNo(NONE),
-            EntryNo(NONE),
-            HandleNo(NONE),
-            HandleNo(NONE),
-            0,
-            0,
-        ),
+        task: Task {
+            stage: 1,
+            chunk: ChunkNo(NONE),
+            entry: EntryNo(NONE),
+            old: HandleNo(NONE),
+            new: HandleNo(NONE),
+            published: 0,
+            swapped: 0,
+            ..t
+        },
         write: Write::Nothing,
         report: why,
+    }
+}
+
+// A remove that has set its mark locates its key again, at 16: of what it held the old handle stays.
+pub fn seeks_again(t: Task) -> Task
+    ensures { result ≡ goes_to t 16 no_chunk no_entry t.old no_handle 0 0 }
+{
+    Task {
+        stage: 16,
+        chunk: ChunkNo(NONE),
+        entry: EntryNo(NONE),
+        new: HandleNo(NONE),
+        published: 0,
+        swapped: 0,
+        ..t
     }
 }
 
@@ -136,21 +90,20 @@ pub fn finishes(w: Write, answer: Report) -> Decision
 pub fn finishes_absent(t: Task) -> Decision
     ensures { result ≡ finishes_absent t }
 {
-    if t.operation == 5 {
-        finishes(Write::Nothing, Report::False)
-    } else {
-        finishes(Write::Nothing, Report::Absent)
+    match Operation::try_from(t.operation) {
+        Ok(Operation::Compute) => finishes(Write::Nothing, Report::False),
+        _ => finishes(Write::Nothing, Report::Absent),
     }
 }
 
-// Finished, and the value that stands in the old handle is given back (document 02, E2).
+// Finished, and the value that stands in the old handle is given back (document 02, E2). Of the tables it asks for the values alone.
 pub fn gives_back(values: &[u64], t: Task, w: Write) -> Decision
-    ensures { (z : Sizes) (d ts cs es ms : List ℕ) → result ≡ gives_back z (tables z d ts cs es values.now ms) t w }
+    ensures { result ≡ finishes w (report.Value (get_or values.now t.old.0 0)) }
 {
     finishes(w, Report::Value(rows::word_at(values, t.old)))
 }
 
-// The row stays as it is.
+// The row is this one, nothing else changes, and the step answers.
 pub fn tells(t: Task, answer: Report) -> Decision
     ensures { result ≡ record { task = t; write = write.Nothing; report = answer } }
 {
@@ -165,15 +118,15 @@ pub fn tells(t: Task, answer: Report) -> Decision
 pub fn stays(t: Task) -> Decision
     ensures { (z : Sizes) (s : Tables) → result ≡ stays z s t }
 {
-    tells(t, Report::Refused(3))
+    tells(t, Report::from(Refusal::TaskIdle))
 }
 
 // Put, putIfAbsent and upsert.
 pub fn inserts(operation: u64) -> bool
     ensures { result ≡ inserts operation }
 {
-    if operation < 2 {
-        return false;
-    }
-    operation <= 4
+    matches!(
+        Operation::try_from(operation),
+        Ok(Operation::Put | Operation::PutIfAbsent | Operation::Upsert),
+    )
 }

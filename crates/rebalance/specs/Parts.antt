@@ -10,19 +10,15 @@ use Rattle.rules.specs.Tables.{chunk_at, empty_entry, row}
 use Rattle.rules.specs.Walks.{before_from}
 use Rattle.rules.specs.Rebalance.{live_before, with_next_chunk}
 
--- the directory's row at another stage, with its first live chunk; the count of the index stays
-abbrev pub at_stage : Directory → ChunkNo → ℕ → ChunkNo → ChunkNo → ChunkNo → Directory
-at_stage d first n old a b = record { first = first; stage = n; old = old; new = a; second = b; indexed = d.indexed }
-
 -- a new chunk of so many entries
 abbrev pub new_of : ℕ → ℕ → Chunk
 new_of min many = record { status = new; frozen = 0; min = min; next = no_chunk; head = pick (eqb many 0) no_entry (entry_no 0); used = many }
 
 -- the chunk before the old one goes on to the new one
-abbrev pub joined : Sizes → List Chunk → ChunkNo → ChunkNo → ChunkNo → List Chunk
-joined z cs first old a =
-    let p = before_from z cs z.chunks first old in
-    pick (eqb first.0 old.0) cs (set cs p.0 (with_next_chunk (chunk_at cs p) a))
+abbrev pub joined : Sizes → List Chunk → Directory → List Chunk
+joined z cs d =
+    let p = before_from z cs z.chunks d.first d.old in
+    pick (eqb d.first.0 d.old.0) cs (set cs p.0 (with_next_chunk (chunk_at cs p) d.new))
 
 -- the new chunks, of rows x and y, are live, the last of them before `after`
 abbrev pub placed : Sizes → List Chunk → Directory → Chunk → Chunk → ChunkNo → List Chunk

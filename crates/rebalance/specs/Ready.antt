@@ -36,16 +36,16 @@ module _ (z : Sizes) where
     pub within : d.0 < z.chunks
     pub other : c.0 ≢ d.0
 
-  -- chunk c has so many entries from the place on that name a handle, which can go into chunks a and b
-  pub record Halves (cs es : List ℕ) (c : ChunkNo) (p : Place) (count : ℕ) (a b : ChunkNo) : Type 0 where
+  -- so many entries from the place on name a handle, and they can go into chunks a and b
+  pub record Halves (cs es : List ℕ) (p : Place) (count : ℕ) (a b : ChunkNo) : Type 0 where
     pub chunks : length cs ≡ z.chunks * 6
     pub entries : length es ≡ z.chunks * z.entries * 3
-    pub old : c.0 < z.chunks
-    pub first : Apart c a
-    pub second : Apart c b
+    pub old : p.chunk.0 < z.chunks
+    pub first : Apart p.chunk a
+    pub second : Apart p.chunk b
     pub fits : count ≤ z.entries
-    pub counted : count ≡ length (naming_at z (entry_rows (z.chunks * z.entries) es) c p)
+    pub counted : count ≡ length (naming_at z (entry_rows (z.chunks * z.entries) es) p)
 
-  pub record Halved (cs cs' : List Chunk) (es es' : List Entry) (c : ChunkNo) (p : Place) (min count : ℕ) (a b : ChunkNo) : Type 0 where
-    pub chunks : cs' ≡ set (set cs a.0 (new_of min ((count + 1) / 2))) b.0 (new_of (get_or (naming_at z es c p) ((count + 1) / 2) empty_entry).key (count - (count + 1) / 2))
-    pub entries : es' ≡ filled z (filled z es a 0 (take ((count + 1) / 2) (naming_at z es c p))) b 0 (drop ((count + 1) / 2) (naming_at z es c p))
+  pub record Halved (cs cs' : List Chunk) (es es' : List Entry) (p : Place) (min count : ℕ) (a b : ChunkNo) : Type 0 where
+    pub chunks : cs' ≡ set (set cs a.0 (new_of min ((count + 1) / 2))) b.0 (new_of (get_or (naming_at z es p) ((count + 1) / 2) empty_entry).key (count - (count + 1) / 2))
+    pub entries : es' ≡ filled z (filled z es a 0 (take ((count + 1) / 2) (naming_at z es p))) b 0 (drop ((count + 1) / 2) (naming_at z es p))

@@ -1,105 +1,52 @@
 // The rebalance over the lent tables: begin, then drain, copy, swap in, index and release, one call each (document 01, "Rebalancing"; document 02, E3).
+// Each stage is lent the tables that it reads or writes, and no others: its contract holds whatever the others are.
 #![tactic(auto)]
 
 ghost use Rattle.std.specs.Prelude.{◌≡◌, List, ℕ, ◌+◌, ◌*◌, ◌<◌, ◌≤◌, length, set, eqb};
 ghost use Rattle.rules.specs.Words.{pick};
-ghost use Rattle.rules.specs.Rebalance.{gives, with_status, frozen_of, live_before, with_next_chunk, begins, drains, copies, swaps_in, releases, rebalance_does};
-ghost use Rattle.rows.specs.Rows.{directory_of, chunk_rows, entry_rows, tables, DirectoryPut};
+ghost use Rattle.rules.specs.Kinds.{told_by};
+ghost use Rattle.rules.specs.Rebalance.{gives, begins, drains, copies, swaps_in, releases, rebalance_does};
+ghost use Rattle.rows.specs.Rows.{directory_of, chunk_rows, entry_rows, tables};
 ghost use Rattle.locating.specs.Charted.{Charted};
 ghost use Rattle.copying.specs.Copied.{Fills, Filled};
 ghost use Rattle.rebalance.specs.Ready.{Given, CanCopy, Ready, Halves, Halved};
-ghost use Rattle.rebalance.specs.Parts.{at_stage, new_of, joined, placed, cleared};
+ghost use Rattle.rebalance.specs.Parts.{new_of, joined, placed, cleared};
 
 use copying::Place;
-use rules::{Chunk, ChunkNo, Directory, EntryNo, NONE, Report, Sizes};
-
-// ---- a chunk's row, written anew
-
-// As it was, and frozen.
-fn frozen(x: Chunk) -> Chunk
-    ensures { result ≡ frozen_of x }
-{
-    let mut row = x;
-    row.frozen = 1;
-    row
-}
-
-// As it was, and retired.
-fn retired(x: Chunk) -> Chunk
-    ensures { result ≡ with_status x 3 }
-{
-    let mut row = x;
-    row.status = 3;
-    row
-}
-
-// As it was, and live, with its next chunk.
-fn live_before(x: Chunk, c: ChunkNo) -> Chunk
-    ensures { result ≡ live_before x c }
-{
-    let mut row = x;
-    row.status = 1;
-    row.next = c;
-    row
-}
-
-// As it was, with its next chunk.
-fn with_next(x: Chunk, c: ChunkNo) -> Chunk
-    ensures { result ≡ with_next_chunk x c }
-{
-    let mut row = x;
-    row.next = c;
-    row
-}
-
-// ---- the directory's row, written anew
-
-// The rebalance is at that stage, of an old chunk and its new ones; the index and its count stay.
-fn put_stage(
-    directory: &mut [u64],
-    first: ChunkNo,
-    stage: u64,
-    old: ChunkNo,
-    new: ChunkNo,
-    second: ChunkNo,
-)
-    requires { 6 ≤ length directory.old }
-    ensures { DirectoryPut directory.old directory.new (at_stage (directory_of directory.old) first stage old new second) }
-{
-    let indexed = rows::directory_row(directory).indexed;
-    rows::put_directory_row(
-        directory,
-        Directory {
-            first: first,
-            stage: stage,
-            old: old,
-            new: new,
-            second: second,
-            indexed: indexed,
-        },
-    );
-}
+use locating::Chart;
+use rules::{Chunk, ChunkNo, Directory, EntryNo, NONE, RebalanceStage, Refusal, Report, Sizes};
 
 // ---- begin
 
 // The live chunk that has the key is frozen, and a rebalance of it is under way.
-pub fn begin(z: Sizes, directory: &mut [u64], chunks: &mut [u64], k: u64) -> Report
+pub fn begin(z: Sizes, directory: &mut [u64], chunks: &mut [u64], k: u64) -> Result<Report, Refusal>
     requires { Charted z directory.old chunks.old }
-    ensures { (ts es vs ms : List ℕ) → gives (tables z directory.new ts chunks.new es vs ms) result ≡ begins z (tables z directory.old ts chunks.old es vs ms) k }
+    ensures { (ts es vs ms : List ℕ) → gives (tables z directory.new ts chunks.new es vs ms) (told_by result) ≡ begins z (tables z directory.old ts chunks.old es vs ms) k }
 {
     let d = rows::directory_row(directory);
     if d.stage != 0 {
-        return Report::Refused(6);
+        return Err(Refusal::RebalanceAtWork);
     }
-    if walks::unused_count(z.chunks, chunks) < 2 {
-        return Report::Refused(7);
+    if listed::status_count(z, chunks, Chunk::UNUSED) < 2 {
+        return Err(Refusal::NoChunks);
     }
-    let first = d.first;
-    let c = locating::locate(z, directory, chunks, k);
+    let chart = Chart {
+        z,
+        directory: &*directory,
+        chunks: &*chunks,
+    };
+    let c = chart.locate(k);
     let x = rows::chunk_at(z, chunks, c);
-    rows::put_chunk(z, chunks, c, frozen(x));
-    put_stage(directory, first, 1, c, ChunkNo(NONE), ChunkNo(NONE));
-    Report::Moved
+    rows::put_chunk(z, chunks, c, Chunk { frozen: 1, ..x });
+    let row = Directory {
+        stage: 1,
+        old: c,
+        new: ChunkNo(NONE),
+        second: ChunkNo(NONE),
+        ..d
+    };
+    rows::put_directory_row(directory, row);
+    Ok(Report::Moved)
 }
 
 // ---- drain
@@ -110,12 +57,16 @@ pub fn drain(z: Sizes, directory: &mut [u64], tasks: &[u64]) -> Report
     ensures { (cs es vs ms : List ℕ) → gives (tables z directory.new tasks.now cs es vs ms) result ≡ drains z (tables z directory.old tasks.now cs es vs ms) }
 {
     let d = rows::directory_row(directory);
-    let first = d.first;
-    let old = d.old;
-    if walks::published_on(z.tasks, tasks, old) {
+    if walks::published_on(z.tasks, tasks, d.old) {
         return Report::Waiting;
     }
-    put_stage(directory, first, 2, old, ChunkNo(NONE), ChunkNo(NONE));
+    let row = Directory {
+        stage: 2,
+        new: ChunkNo(NONE),
+        second: ChunkNo(NONE),
+        ..d
+    };
+    rows::put_directory_row(directory, row);
     Report::Moved
 }
 
@@ -125,14 +76,13 @@ pub fn drain(z: Sizes, directory: &mut [u64], tasks: &[u64]) -> Report
 fn new_chunk(min: u64, many: usize) -> Chunk
     ensures { result ≡ new_of min many }
 {
-    let head = if many == 0 { EntryNo(NONE) } else { EntryNo(0) };
+    let head = if many == 0 { NONE } else { 0 };
     Chunk {
-        status: 2,
-        frozen: 0,
-        min: min,
-        next: ChunkNo(NONE),
-        head: head,
+        status: Chunk::NEW,
+        min,
+        head: EntryNo(head),
         used: many as u64,
+        ..rows::empty_chunk()
     }
 }
 
@@ -141,16 +91,15 @@ fn make(
     z: Sizes,
     chunks: &mut [u64],
     entries: &mut [u64],
-    old: ChunkNo,
     from: Place,
     into: ChunkNo,
     min: u64,
     many: usize,
 ) -> Place
-    requires { Fills z entries.old old from into many × (length chunks.old ≡ z.chunks * 6) }
-    ensures { Filled z (entry_rows (z.chunks * z.entries) entries.old) (entry_rows (z.chunks * z.entries) entries.new) old from result into many × (chunk_rows z.chunks chunks.new ≡ set (chunk_rows z.chunks chunks.old) into.0 (new_of min many)) }
+    requires { Fills z entries.old from into many × (length chunks.old ≡ z.chunks * 6) }
+    ensures { Filled z (entry_rows (z.chunks * z.entries) entries.old) (entry_rows (z.chunks * z.entries) entries.new) from result into many × (chunk_rows z.chunks chunks.new ≡ set (chunk_rows z.chunks chunks.old) into.0 (new_of min many)) }
 {
-    let rest = copying::fill(z, entries, old, from, into, many);
+    let rest = copying::fill(z, entries, from, into, many);
     rows::put_chunk(z, chunks, into, new_chunk(min, many));
     rest
 }
@@ -160,20 +109,19 @@ fn make_two(
     z: Sizes,
     chunks: &mut [u64],
     entries: &mut [u64],
-    old: ChunkNo,
     whole: Place,
     min: u64,
     count: usize,
     a: ChunkNo,
     b: ChunkNo,
 )
-    requires { Halves z chunks.old entries.old old whole count a b }
-    ensures { Halved z (chunk_rows z.chunks chunks.old) (chunk_rows z.chunks chunks.new) (entry_rows (z.chunks * z.entries) entries.old) (entry_rows (z.chunks * z.entries) entries.new) old whole min count a b }
+    requires { Halves z chunks.old entries.old whole count a b }
+    ensures { Halved z (chunk_rows z.chunks chunks.old) (chunk_rows z.chunks chunks.new) (entry_rows (z.chunks * z.entries) entries.old) (entry_rows (z.chunks * z.entries) entries.new) whole min count a b }
 {
     let half = count - count / 2;
-    let rest = make(z, chunks, entries, old, whole, a, min, half);
-    let key = copying::next_key(z, entries, old, rest);
-    make(z, chunks, entries, old, rest, b, key, count - half);
+    let rest = make(z, chunks, entries, whole, a, min, half);
+    let key = copying::next_key(z, entries, rest).unwrap_or(0);
+    make(z, chunks, entries, rest, b, key, count - half);
 }
 
 // The old chunk's entries that name a handle are copied: into one new chunk, or, more than half a chunk of them, into two.
@@ -183,40 +131,51 @@ pub fn copy(z: Sizes, directory: &mut [u64], chunks: &mut [u64], entries: &mut [
     ensures { (ts vs ms : List ℕ) → gives (tables z directory.new ts chunks.new entries.new vs ms) result ≡ copies z (tables z directory.old ts chunks.old entries.old vs ms) }
 {
     let d = rows::directory_row(directory);
-    let first = d.first;
-    let old = d.old;
-    let x = rows::chunk_at(z, chunks, old);
-    let head = x.head;
-    let count = copying::naming_count(z, entries, old, head);
+    let x = rows::chunk_at(z, chunks, d.old);
     let whole = Place {
-        entry: head,
+        chunk: d.old,
+        entry: x.head,
         left: z.entries,
     };
-    let a = walks::unused_from(z.chunks, chunks, 0);
+    let count = copying::naming_count(z, entries, whole);
+    let a = walks::unused_from(z.chunks, chunks, 0).unwrap();
     if count <= z.entries / 2 {
-        make(z, chunks, entries, old, whole, a, x.min, count);
-        put_stage(directory, first, 3, old, a, ChunkNo(NONE));
+        make(z, chunks, entries, whole, a, x.min, count);
+        let row = Directory {
+            stage: 3,
+            new: a,
+            second: ChunkNo(NONE),
+            ..d
+        };
+        rows::put_directory_row(directory, row);
         return Report::Moved;
     }
-    let b = walks::unused_from(z.chunks, chunks, a.0 as usize + 1);
-    make_two(z, chunks, entries, old, whole, x.min, count, a, b);
-    put_stage(directory, first, 3, old, a, b);
+    let b = walks::unused_from(z.chunks, chunks, a.0 as usize + 1).unwrap();
+    make_two(z, chunks, entries, whole, x.min, count, a, b);
+    let row = Directory {
+        stage: 3,
+        new: a,
+        second: b,
+        ..d
+    };
+    rows::put_directory_row(directory, row);
     Report::Moved
 }
 
 // ---- swap in
 
 // The chunk before the old one, if there is one, goes on to the new one.
-fn join(z: Sizes, chunks: &mut [u64], first: ChunkNo, old: ChunkNo, new: ChunkNo)
+fn join(z: Sizes, chunks: &mut [u64], d: Directory)
     requires { length chunks.old ≡ z.chunks * 6 }
-    ensures { chunk_rows z.chunks chunks.new ≡ joined z (chunk_rows z.chunks chunks.old) first old new }
+    ensures { chunk_rows z.chunks chunks.new ≡ joined z (chunk_rows z.chunks chunks.old) d }
 {
-    if first.0 == old.0 {
+    if d.first == d.old {
         return;
     }
-    let p = walks::before(z, chunks, first, old);
-    let x = rows::chunk_at(z, chunks, p);
-    rows::put_chunk(z, chunks, p, with_next(x, new));
+    if let Some(p) = walks::before(z, chunks, d.first, d.old) {
+        let x = rows::chunk_at(z, chunks, p);
+        rows::put_chunk(z, chunks, p, Chunk { next: d.new, ..x });
+    }
 }
 
 // The new chunks are live, the last of them before the given one.
@@ -224,24 +183,35 @@ fn place_new(z: Sizes, chunks: &mut [u64], d: Directory, a: Chunk, b: Chunk, aft
     requires { length chunks.old ≡ z.chunks * 6 }
     ensures { chunk_rows z.chunks chunks.new ≡ placed z (chunk_rows z.chunks chunks.old) d a b after }
 {
-    let new = d.new;
-    let second = d.second;
-    if z.chunks <= second.0 as usize {
-        rows::put_chunk(z, chunks, new, live_before(a, after));
+    let status = Chunk::LIVE;
+    if z.chunks <= d.second.0 as usize {
+        let row = Chunk {
+            status,
+            next: after,
+            ..a
+        };
+        rows::put_chunk(z, chunks, d.new, row);
         return;
     }
-    rows::put_chunk(z, chunks, new, live_before(a, second));
-    rows::put_chunk(z, chunks, second, live_before(b, after));
+    let first = Chunk {
+        status,
+        next: d.second,
+        ..a
+    };
+    let second = Chunk {
+        status,
+        next: after,
+        ..b
+    };
+    rows::put_chunk(z, chunks, d.new, first);
+    rows::put_chunk(z, chunks, d.second, second);
 }
 
 // The first live chunk, where the new one takes the old one's place.
-fn first_live(first: ChunkNo, old: ChunkNo, new: ChunkNo) -> ChunkNo
-    ensures { result ≡ pick (eqb first.0 old.0) new first }
+fn first_live(d: Directory) -> ChunkNo
+    ensures { result ≡ pick (eqb d.first.0 d.old.0) d.new d.first }
 {
-    if first.0 == old.0 {
-        return new;
-    }
-    first
+    if d.first == d.old { d.new } else { d.first }
 }
 
 // The new chunks stand in the old one's place, and it is retired.
@@ -250,18 +220,19 @@ pub fn swap_in(z: Sizes, directory: &mut [u64], chunks: &mut [u64]) -> Report
     ensures { (ts es vs ms : List ℕ) → gives (tables z directory.new ts chunks.new es vs ms) result ≡ swaps_in z (tables z directory.old ts chunks.old es vs ms) }
 {
     let d = rows::directory_row(directory);
-    let first = d.first;
-    let old = d.old;
-    let new = d.new;
-    let second = d.second;
-    let x = rows::chunk_at(z, chunks, old);
-    let a = rows::chunk_at(z, chunks, new);
-    let b = rows::chunk_at(z, chunks, second);
-    let after = x.next;
-    join(z, chunks, first, old, new);
-    place_new(z, chunks, d, a, b, after);
-    rows::put_chunk(z, chunks, old, retired(x));
-    put_stage(directory, first_live(first, old, new), 4, old, new, second);
+    let x = rows::chunk_at(z, chunks, d.old);
+    let a = rows::chunk_at(z, chunks, d.new);
+    let b = rows::chunk_at(z, chunks, d.second);
+    join(z, chunks, d);
+    place_new(z, chunks, d, a, b, x.next);
+    let status = Chunk::RETIRED;
+    rows::put_chunk(z, chunks, d.old, Chunk { status, ..x });
+    let row = Directory {
+        first: first_live(d),
+        stage: 4,
+        ..d
+    };
+    rows::put_directory_row(directory, row);
     Report::Moved
 }
 
@@ -272,9 +243,7 @@ fn clear(z: Sizes, entries: &mut [u64], c: ChunkNo)
     requires { (c.0 < z.chunks) × (length entries.old ≡ z.chunks * z.entries * 3) }
     ensures { entry_rows (z.chunks * z.entries) entries.new ≡ cleared z z.entries (entry_rows (z.chunks * z.entries) entries.old) c }
 {
-    let mut n = z.entries;
-    while 0 < n {
-        n -= 1;
+    for n in (0..z.entries).rev() {
         rows::put_entry(z, entries, c, EntryNo(n as u64), rows::empty_entry());
     }
 }
@@ -292,21 +261,19 @@ pub fn release(
     ensures { (vs ms : List ℕ) → gives (tables z directory.new tasks.now chunks.new entries.new vs ms) result ≡ releases z (tables z directory.old tasks.now chunks.old entries.old vs ms) }
 {
     let d = rows::directory_row(directory);
-    let first = d.first;
-    let old = d.old;
-    if walks::held_chunk(z.tasks, tasks, old) {
+    if walks::held_chunk(z.tasks, tasks, d.old) {
         return Report::Waiting;
     }
-    clear(z, entries, old);
-    rows::put_chunk(z, chunks, old, rows::empty_chunk());
-    put_stage(
-        directory,
-        first,
-        0,
-        ChunkNo(NONE),
-        ChunkNo(NONE),
-        ChunkNo(NONE),
-    );
+    clear(z, entries, d.old);
+    rows::put_chunk(z, chunks, d.old, rows::empty_chunk());
+    let row = Directory {
+        stage: 0,
+        old: ChunkNo(NONE),
+        new: ChunkNo(NONE),
+        second: ChunkNo(NONE),
+        ..d
+    };
+    rows::put_directory_row(directory, row);
     Report::Finished
 }
 
@@ -319,18 +286,18 @@ pub fn rebalance(
     tasks: &[u64],
     chunks: &mut [u64],
     entries: &mut [u64],
-) -> Report
+) -> Result<Report, Refusal>
     requires given { Given z directory.old tasks.now chunks.old entries.old }
     requires ready { Ready z (directory_of directory.old) (chunk_rows z.chunks chunks.old) }
-    ensures { (vs ms : List ℕ) → gives (tables z directory.new tasks.now chunks.new entries.new vs ms) result ≡ rebalance_does (directory_of directory.old).stage z (tables z directory.old tasks.now chunks.old entries.old vs ms) }
+    ensures { (vs ms : List ℕ) → gives (tables z directory.new tasks.now chunks.new entries.new vs ms) (told_by result) ≡ rebalance_does (directory_of directory.old).stage z (tables z directory.old tasks.now chunks.old entries.old vs ms) }
 {
-    let stage = rows::directory_row(directory).stage;
-    match stage {
-        1 => drain(z, directory, tasks),
-        2 => copy(z, directory, chunks, entries),
-        3 => swap_in(z, directory, chunks),
-        4 => indexing::index(z, directory, chunks),
-        5 => release(z, directory, tasks, chunks, entries),
-        _ => Report::Refused(8),
-    }
+    let d = rows::directory_row(directory);
+    let report = match RebalanceStage::try_from(d.stage)? {
+        RebalanceStage::Drain => drain(z, directory, tasks),
+        RebalanceStage::Copy => copy(z, directory, chunks, entries),
+        RebalanceStage::SwapIn => swap_in(z, directory, chunks),
+        RebalanceStage::Index => indexing::index(z, directory, chunks),
+        RebalanceStage::Release => release(z, directory, tasks, chunks, entries),
+    };
+    Ok(report)
 }

@@ -7,9 +7,10 @@ ghost use Rattle.rules.specs.Tables.{Tables, value, mark, put_value, put_mark};
 ghost use Rattle.records.specs.Records.{record_at, freshened, stored, marked, with_records};
 
 use rules::HandleNo;
+use std::mem;
 
 // A handle's record: its value, and its mark, 1 where it is deleted.
-#[derive(Clone, Copy)]
+#[derive(Clone, Copy, Default)]
 pub struct Record {
     pub value: u64,
     pub deleted: u64,
@@ -19,24 +20,17 @@ pub struct Record {
 pub fn read(records: &[Record], h: HandleNo) -> Record
     ensures { (result ≡ record_at records.now h) × ((s : Tables) → (result.value ≡ value (with_records s records.now) h) × (result.deleted ≡ mark (with_records s records.now) h)) }
 {
-    let i = h.0 as usize;
-    if i < records.len() {
-        return records[i];
-    }
-    Record {
-        value: 0,
-        deleted: 0,
-    }
+    records.get(h.0 as usize).copied().unwrap_or_default()
 }
 
 // The handle's record is undeleted, value 0.
+// This and what follows go by the index: the contract of the slice's `get_mut` doesn't say what the slice ends as.
 pub fn fresh(records: &mut [Record], h: HandleNo)
     ensures { (records.new ≡ freshened records.old h) × ((s : Tables) → with_records s records.new ≡ put_mark (put_value (with_records s records.old) h 0) h 0) }
 {
     let i = h.0 as usize;
     if i < records.len() {
-        records[i].value = 0;
-        records[i].deleted = 0;
+        records[i] = Record::default();
     }
 }
 
@@ -46,11 +40,10 @@ pub fn store(records: &mut [Record], h: HandleNo, v: u64) -> u64
 {
     let i = h.0 as usize;
     if i < records.len() {
-        let former = records[i].value;
-        records[i].value = v;
-        return former;
+        mem::replace(&mut records[i].value, v)
+    } else {
+        0
     }
-    0
 }
 
 // The handle's record is marked deleted, and the value that stands there is given back.
@@ -61,7 +54,8 @@ pub fn mark(records: &mut [Record], h: HandleNo) -> u64
     if i < records.len() {
         let value = records[i].value;
         records[i].deleted = 1;
-        return value;
+        value
+    } else {
+        0
     }
-    0
 }

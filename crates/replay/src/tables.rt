@@ -1,185 +1,186 @@
-// Every table as lines, leaving out what is 0 and none throughout.
-ghost use Rattle.std.specs.Prelude.{◌<◌};
+// The directory's six tables: calls on them, and the tables as lines, leaving out what is 0 and none throughout.
+ghost use Rattle.std.specs.Prelude.{◌+◌, ◌*◌, ◌<◌, ◌≡◌, length, slice_range};
 ghost use Rattle.rules.specs.Words.{limits};
 
-use crate::{CHUNKS_LENGTH, DIRECTORY_LENGTH, ENTRIES_LENGTH, TASKS_LENGTH, room};
-use rules::Directory;
+use crate::answers::Answers;
+use rules::{Chunk, Directory, Report};
+use script::{ChunkLine, DirectoryLines, EntryLine, HandleLine, IndexLine, StackLine, TaskLine};
+use std::fmt;
 
-// The rows of the index that are in use.
-fn all_rows(
-    rt: &impl Print,
-    out: &mut [u8; 65536],
-    at: usize,
-    many: u64,
-    directory: &[u64; DIRECTORY_LENGTH],
-) -> usize {
-    let mut n = at;
-    let mut i = 0;
-    while i < Directory::CHUNKS {
-        if (i as u64) < many {
-            let x = rows::index_row(directory, i);
-            n = room(rt, out, n);
-            n = script::index_line(out, n, i as u64, x);
+// How many words the lent tables have; the index stands after the directory's row, a task's stack after every task's row.
+const DIRECTORY_LENGTH: usize = rows::DIRECTORY_WORDS + Directory::CHUNKS * rows::INDEX_WORDS;
+
+const TASKS_LENGTH: usize = Directory::TASKS * rows::TASK_WORDS
+    + Directory::TASKS * Directory::ENTRIES;
+
+const CHUNKS_LENGTH: usize = Directory::CHUNKS * rows::CHUNK_WORDS;
+
+const ENTRIES_LENGTH: usize = Directory::CHUNKS * Directory::ENTRIES * rows::ENTRY_WORDS;
+
+// The tables of one directory.
+#[derive(Drop)]
+pub struct Tables {
+    directory: [u64; DIRECTORY_LENGTH],
+    tasks: [u64; TASKS_LENGTH],
+    chunks: [u64; CHUNKS_LENGTH],
+    entries: [u64; ENTRIES_LENGTH],
+    values: [u64; Directory::HANDLES],
+    marks: [u64; Directory::HANDLES],
+}
+
+impl Tables {
+    // Tables of zeros.
+    pub fn empty() -> Tables {
+        Tables {
+            directory: [0; DIRECTORY_LENGTH],
+            tasks: [0; TASKS_LENGTH],
+            chunks: [0; CHUNKS_LENGTH],
+            entries: [0; ENTRIES_LENGTH],
+            values: [0; Directory::HANDLES],
+            marks: [0; Directory::HANDLES],
         }
-        i += 1;
     }
-    n
-}
 
-// The used entries of chunk i.
-fn used_entries(
-    rt: &impl Print,
-    out: &mut [u8; 65536],
-    at: usize,
-    i: usize,
-    used: u64,
-    entries: &[u64; ENTRIES_LENGTH],
-) -> usize
-    requires { i < limits.chunks }
-{
-    let mut n = at;
-    let mut e = 0;
-    while e < Directory::ENTRIES {
-        if (e as u64) < used {
-            let x = rows::entry_row(entries, i * Directory::ENTRIES + e);
-            n = room(rt, out, n);
-            n = script::entry_line(out, n, i as u64, e as u64, x);
+    // The fresh directory's tables.
+    pub fn fresh(&mut self) -> Report {
+        directory::fresh(
+            &mut self.directory,
+            &mut self.tasks,
+            &mut self.chunks,
+            &mut self.entries,
+            &mut self.values,
+            &mut self.marks,
+        )
+    }
+
+    // Task n starts an operation with a key, an argument and a function.
+    pub fn start(&mut self, n: u64, op: u64, k: u64, a: u64, f: u64) -> Report {
+        directory::start(
+            &self.directory,
+            &mut self.tasks,
+            &self.chunks,
+            &self.entries,
+            &self.values,
+            &self.marks,
+            n,
+            op,
+            k,
+            a,
+            f,
+        )
+    }
+
+    // Task n makes a step.
+    pub fn step(&mut self, n: u64) -> Report {
+        directory::step(
+            &self.directory,
+            &mut self.tasks,
+            &mut self.chunks,
+            &mut self.entries,
+            &mut self.values,
+            &mut self.marks,
+            n,
+        )
+    }
+
+    // A rebalance of the chunk that has the key begins.
+    pub fn begin(&mut self, k: u64) -> Report {
+        directory::begin(
+            &mut self.directory,
+            &self.tasks,
+            &mut self.chunks,
+            &self.entries,
+            &self.values,
+            &self.marks,
+            k,
+        )
+    }
+
+    // The rebalance makes a step.
+    pub fn rebalance(&mut self) -> Report {
+        directory::rebalance(
+            &mut self.directory,
+            &self.tasks,
+            &mut self.chunks,
+            &mut self.entries,
+            &self.values,
+            &self.marks,
+        )
+    }
+
+    // Every table.
+    pub fn print(&self, to: &mut Answers<'_, impl Print>) -> fmt::Result {
+        self.print_directory(to)?;
+        self.print_chunks(to)?;
+        self.print_handles(to)?;
+        self.print_tasks(to)
+    }
+
+    // The directory's row, and the rows of the index that are in use.
+    fn print_directory(&self, to: &mut Answers<'_, impl Print>) -> fmt::Result {
+        let d = rows::directory_row(&self.directory);
+        to.row(DirectoryLines(d))?;
+        for i in 0..Directory::CHUNKS.min(d.indexed as usize) {
+            to.row(IndexLine(i, rows::index_row(&self.directory, i)))?;
         }
-        e += 1;
+        Ok(())
     }
-    n
-}
 
-fn all_chunks(
-    rt: &impl Print,
-    out: &mut [u8; 65536],
-    at: usize,
-    chunks: &[u64; CHUNKS_LENGTH],
-    entries: &[u64; ENTRIES_LENGTH],
-) -> usize {
-    let mut n = at;
-    let mut i = 0;
-    while i < Directory::CHUNKS {
-        let c = rows::chunk_row(chunks, i);
-        if c.status != 0 {
-            n = room(rt, out, n);
-            n = script::chunk_line(out, n, i as u64, c);
-            n = used_entries(rt, out, n, i, c.used, entries);
+    // The chunks that are not unused, each with its used entries.
+    fn print_chunks(&self, to: &mut Answers<'_, impl Print>) -> fmt::Result {
+        for i in 0..Directory::CHUNKS {
+            let c = rows::chunk_row(&self.chunks, i);
+            if c.status != Chunk::UNUSED {
+                to.row(ChunkLine(i, c))?;
+                self.print_entries(i, c.used, to)?;
+            }
         }
-        i += 1;
+        Ok(())
     }
-    n
-}
 
-fn all_handles(
-    rt: &impl Print,
-    out: &mut [u8; 65536],
-    at: usize,
-    values: &[u64; Directory::HANDLES],
-    marks: &[u64; Directory::HANDLES],
-) -> usize {
-    let mut n = at;
-    let mut h = 0;
-    while h < Directory::HANDLES {
-        let value = values[h];
-        let mark = marks[h];
-        if is_told(value, mark) {
-            n = room(rt, out, n);
-            n = script::handle_line(out, n, h as u64, value, mark);
+    // The used entries of chunk i.
+    fn print_entries(&self, i: usize, used: u64, to: &mut Answers<'_, impl Print>) -> fmt::Result
+        requires { i < limits.chunks }
+    {
+        for e in 0..Directory::ENTRIES.min(used as usize) {
+            let x = rows::entry_row(&self.entries, i * Directory::ENTRIES + e);
+            to.row(EntryLine(i, e, x))?;
         }
-        h += 1;
+        Ok(())
     }
-    n
-}
 
-// A handle's record is left out where its value is 0 and it is not deleted.
-fn is_told(value: u64, mark: u64) -> bool {
-    if value != 0 {
-        return true;
-    }
-    mark != 0
-}
-
-// Word e of task i's stack.
-fn stack_word(tasks: &[u64; TASKS_LENGTH], i: usize, e: usize) -> u64
-    requires { (i < limits.tasks) × (e < limits.entries) }
-{
-    let x = rows::stack_at(Directory::sizes(), tasks, i, e);
-    x.0
-}
-
-// The entries on task i's stack, the top last; the first word that is none ends it.
-fn stack_entries(out: &mut [u8; 65536], at: usize, i: usize, tasks: &[u64; TASKS_LENGTH]) -> usize
-    requires { i < limits.tasks }
-{
-    let mut n = at;
-    let mut e = 0;
-    while e < Directory::ENTRIES {
-        let x = stack_word(tasks, i, e);
-        if x == rules::NONE {
-            return n;
+    // The handles, but for those whose value is 0 and that are not deleted.
+    fn print_handles(&self, to: &mut Answers<'_, impl Print>) -> fmt::Result {
+        for (h, (value, mark)) in self.values.iter().zip(&self.marks).enumerate() {
+            if *value != 0 || *mark != 0 {
+                to.row(HandleLine(h, *value, *mark))?;
+            }
         }
-        n = script::stack_entry(out, n, x);
-        e += 1;
+        Ok(())
     }
-    n
-}
 
-// Task i's stack has a line where there are entries on it.
-fn stack(
-    rt: &impl Print,
-    out: &mut [u8; 65536],
-    at: usize,
-    i: usize,
-    tasks: &[u64; TASKS_LENGTH],
-) -> usize
-    requires { i < limits.tasks }
-{
-    if stack_word(tasks, i, 0) == rules::NONE {
-        return at;
-    }
-    let n = room(rt, out, at);
-    let n = script::stack_begins(out, n, i as u64);
-    let n = stack_entries(out, n, i, tasks);
-    script::stack_ends(out, n)
-}
-
-fn all_tasks(
-    rt: &impl Print,
-    out: &mut [u8; 65536],
-    at: usize,
-    tasks: &[u64; TASKS_LENGTH],
-) -> usize {
-    let mut n = at;
-    let mut i = 0;
-    while i < Directory::TASKS {
-        let t = rows::task_row(tasks, i);
-        if t.stage != 0 {
-            n = room(rt, out, n);
-            n = script::task_line(out, n, i as u64, t);
-            n = stack(rt, out, n, i, tasks);
+    // The tasks at work, each with its stack where there are entries on it.
+    fn print_tasks(&self, to: &mut Answers<'_, impl Print>) -> fmt::Result {
+        for i in 0..Directory::TASKS {
+            let t = rows::task_row(&self.tasks, i);
+            if t.stage != 0 {
+                to.row(TaskLine(i, t))?;
+                let stack = self.stack(i);
+                if stack[0] != rules::NONE {
+                    to.row(StackLine(i, stack))?;
+                }
+            }
         }
-        i += 1;
+        Ok(())
     }
-    n
-}
 
-pub fn print(
-    rt: &impl Print,
-    out: &mut [u8; 65536],
-    at: usize,
-    directory: &[u64; DIRECTORY_LENGTH],
-    tasks: &[u64; TASKS_LENGTH],
-    chunks: &[u64; CHUNKS_LENGTH],
-    entries: &[u64; ENTRIES_LENGTH],
-    values: &[u64; Directory::HANDLES],
-    marks: &[u64; Directory::HANDLES],
-) -> usize {
-    let n = room(rt, out, at);
-    let d = rows::directory_row(directory);
-    let n = script::directory_lines(out, n, d);
-    let n = all_rows(rt, out, n, d.indexed, directory);
-    let n = all_chunks(rt, out, n, chunks, entries);
-    let n = all_handles(rt, out, n, values, marks);
-    all_tasks(rt, out, n, tasks)
+    // The words of task i's stack.
+    fn stack(&self, i: usize) -> &[u64]
+        requires { i < limits.tasks }
+        ensures count { length result.now ≡ limits.entries }
+        ensures words { result.now ≡ slice_range self.now.tasks (limits.tasks * 11 + i * limits.entries) (limits.tasks * 11 + i * limits.entries + limits.entries) }
+    {
+        let at = rows::stack_number(Directory::sizes(), i, 0);
+        &self.tasks[at..at + Directory::ENTRIES]
+    }
 }

@@ -18,6 +18,10 @@ ne-lt-or-lt a b n = go (dec_lt a b)
     go (yes h) = inl h
     go (no h) = inr (omega arith)
 
+-- a walk of so many steps, one step on
+pub one_less {ℓ} : {A : Type ℓ} (f : ℕ → A) (steps n : ℕ) → f (steps - n - 1) ≡ f (steps - (n + 1))
+one_less f steps n = ap f (omega arith)
+
 -- entry e of chunk c, of m chunks of n entries
 pub row_below : (m n c e : ℕ) → c < m → e < n → c * n + e < m * n
 row_below m n c e h k = omega (arith, mul-le-mul_right n h, suc-mul c n)

@@ -2,12 +2,17 @@
 // Code above reads and writes rows through them; a handle's value and its mark are words of their own.
 #![tactic(auto)]
 
+mod lent;
+mod shaped;
+
 ghost use Rattle.std.specs.Prelude.{◌≡◌, ℕ, ◌+◌, ◌*◌, ◌^◌, ◌<◌, ◌≤◌, [], length, set, get_or};
 ghost use Rattle.rules.specs.Words.{no_entry};
 ghost use Rattle.rules.specs.Tables.{idle_task, empty_chunk, empty_entry, empty_row, row, chunk_at, entry_at};
 ghost use Rattle.rows.specs.Rows.{directory_of, index_of, task_of, chunk_of, entry_of, chunk_rows, entry_rows, stack_rows, Numbers, DirectoryPut, IndexPut, TaskPut, StackWord, StackPut};
 
+pub use lent::Lent;
 use rules::{Chunk, ChunkNo, Directory, Entry, EntryNo, HandleNo, IndexRow, NONE, Sizes, Task};
+pub use shaped::Shaped;
 
 // How many words a row has: the directory's own, one of the index, a task's, a chunk's, an entry's.
 pub const DIRECTORY_WORDS: usize = 6;
@@ -299,13 +304,13 @@ pub fn put_stack_at(z: Sizes, tasks: &mut [u64], n: usize, i: usize, e: EntryNo)
 pub fn word_at(words: &[u64], h: HandleNo) -> u64
     ensures { result ≡ get_or words.now h.0 0 }
 {
-    let i = h.0 as usize;
-    if i < words.len() { words[i] } else { 0 }
+    words.get(h.0 as usize).copied().unwrap_or(0)
 }
 
 pub fn put_word(words: &mut [u64], h: HandleNo, v: u64)
     ensures { words.new ≡ set words.old h.0 v }
 {
+    // by its index: the contract of the slice's `get_mut` doesn't say what the slice ends as
     let i = h.0 as usize;
     if i < words.len() {
         words[i] = v;

@@ -14,3 +14,4 @@ pub mod Cases
 pub mod Unbroken
 pub mod Changed
 pub mod Broken
+pub mod Kinds

@@ -1,86 +1,64 @@
 // Stage 23: the scan from the top key down (document 02, E1).
-ghost use Rattle.std.specs.Prelude.{◌≡◌, List, ℕ, ◌<◌};
+ghost use Rattle.std.specs.Prelude.{◌≡◌, ◌<◌};
 ghost use Rattle.rules.specs.declared.Write.TheVariants as write;
 ghost use Rattle.rules.specs.Words.{no_entry, no_handle};
 ghost use Rattle.rules.specs.Walks.{locate};
 ghost use Rattle.rules.specs.Stages.{goes_to, moves, takes_off, scans_down};
-ghost use Rattle.rows.specs.Rows.{tables, as_lent, Lends};
-ghost use Rattle.locating.specs.Charted.{Charted};
-ghost use Rattle.outcome.specs.Lengths.{Entries};
+ghost use Rattle.rows.specs.Seen.{seen};
 
 use crate::up::is_undeleted;
-use outcome::{finishes, moves_to, tells};
-use rules::{Chunk, ChunkNo, Decision, Entry, EntryNo, HandleNo, NONE, Report, Sizes, Task, Write};
+use outcome::{Read, finishes, moves, tells};
+use rows::Lent;
+use rules::{Chunk, ChunkNo, Decision, Entry, EntryNo, HandleNo, NONE, Report, Task, Write};
 
 // One entry is off the stack: a pair where it names an undeleted handle.
-pub fn take_off(
-    z: Sizes,
-    entries: &[u64],
-    values: &[u64],
-    marks: &[u64],
-    t: Task,
-    e: EntryNo,
-) -> Decision
-    requires { (e.0 < z.entries) × Entries z entries.now }
-    ensures { (d ts cs : List ℕ) → result ≡ takes_off z (tables z d ts cs entries.now values.now marks.now) t e }
+pub fn take_off(s: &Lent, t: Task, e: EntryNo) -> Decision
+    requires { e.0 < s.now.z.entries }
+    ensures { result ≡ takes_off s.now.z (seen s.now) t e }
 {
-    let c = t.chunk;
-    let x = walks::entry_in(z, entries, c, e);
-    let h = x.handle;
-    if is_undeleted(z, marks, h) {
-        let v = rows::word_at(values, h);
+    let x = walks::entry_in(s.z, s.entries, t.chunk, e);
+    if is_undeleted(s.z, s.marks, x.handle) {
+        let v = rows::word_at(s.values, x.handle);
         return tells(t, Report::Pair(x.key, v));
     }
     tells(t, Report::Moved)
 }
 
-// The stack is to be filled from the live chunk that has the key.
-pub fn fill_from(z: Sizes, directory: &[u64], chunks: &[u64], t: Task, k: u64) -> Decision
-    requires { Charted z directory.now chunks.now }
-    ensures { (ts es vs ms : List ℕ) → result ≡ moves (goes_to t 23 (locate z (tables z directory.now ts chunks.now es vs ms) k) no_entry no_handle no_handle 0 0) write.Nothing }
+// The stack is to be filled from the live chunk that has the key. As a call of its own it would have its decision copied by `memcpy`, which the archive may not ask for.
+#[inline(always)]
+pub fn fill_from(s: &Read, t: Task, k: u64) -> Decision
+    ensures { result ≡ moves (goes_to t 23 (locate s.now.lent.z (seen s.now.lent) k) no_entry no_handle no_handle 0 0) write.Nothing }
 {
-    let c = locating::locate(z, directory, chunks, k);
-    moves_to(
-        t,
-        23,
-        c,
-        EntryNo(NONE),
-        HandleNo(NONE),
-        HandleNo(NONE),
-        0,
-        0,
-        Write::Nothing,
-    )
+    let filling = Task {
+        stage: 23,
+        chunk: s.locate(k),
+        entry: EntryNo(NONE),
+        old: HandleNo(NONE),
+        new: HandleNo(NONE),
+        published: 0,
+        swapped: 0,
+        ..t
+    };
+    moves(filling, Write::Nothing)
 }
 
 // 23 scan down, of task number `n`
-pub fn scan_down(
-    z: Sizes,
-    directory: &[u64],
-    tasks: &[u64],
-    chunks: &[u64],
-    entries: &[u64],
-    values: &[u64],
-    marks: &[u64],
-    n: usize,
-    t: Task,
-) -> Decision
-    requires { Lends z directory.now tasks.now chunks.now entries.now values.now marks.now × Charted z directory.now chunks.now × (n < z.tasks) }
-    ensures { result ≡ scans_down z (as_lent z directory.now tasks.now chunks.now entries.now values.now marks.now) t n }
+pub fn scan_down(s: &Read, n: usize, t: Task) -> Decision
+    requires { n < s.now.lent.z.tasks }
+    ensures { result ≡ scans_down s.now.lent.z (seen s.now.lent) t n }
 {
-    let depth = walks::stack_depth(z, tasks, n);
+    let z = s.lent.z;
+    let depth = walks::stack_depth(z, s.lent.tasks, n);
     if 0 < depth {
-        let e = rows::stack_at(z, tasks, n, depth - 1);
-        return take_off(z, entries, values, marks, t, e);
+        let e = rows::stack_at(z, s.lent.tasks, n, depth - 1);
+        return take_off(&s.lent, t, e);
     }
-    let c = t.chunk;
-    let i = c.0 as usize;
-    if z.chunks <= i {
-        return fill_from(z, directory, chunks, t, t.argument);
+    if z.chunks <= t.chunk.0 as usize {
+        return fill_from(s, t, t.argument);
     }
-    let x = rows::chunk_at(z, chunks, c);
+    let x = rows::chunk_at(z, s.lent.chunks, t.chunk);
     if x.min <= t.key {
         return finishes(Write::Nothing, Report::Done);
     }
-    fill_from(z, directory, chunks, t, x.min - 1)
+    fill_from(s, t, x.min - 1)
 }

@@ -1,4 +1,5 @@
-pub mod Asking
-pub mod Numbers
-pub mod Taking
+pub mod Digits
+pub mod Putting
+pub mod States
 pub mod Verbs
+pub mod Words

@@ -2,12 +2,15 @@
 #![tactic(auto)]
 
 mod line;
+mod numbers;
+mod out;
 mod print;
 mod tables;
+mod word;
 
-pub use line::{Asked, Line, asks, empty, meant, next};
-pub use print::{line as text_line, report};
+pub use line::{Asked, Line, meant};
+pub use out::Out;
+pub use print::{Told, report, text_line};
 pub use tables::{
-    chunk_line, directory_lines, entry_line, handle_line, index_line, stack_begins, stack_ends,
-    stack_entry, task_line,
+    ChunkLine, DirectoryLines, EntryLine, HandleLine, IndexLine, StackLine, TaskLine,
 };

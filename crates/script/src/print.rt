@@ -1,85 +1,51 @@
-// Words and numbers put into a buffer from a place on; each answers the place after what it put.
-// What finds no room is left out, so a caller sees to the room.
-ghost use Rattle.std.specs.Prelude.{◌∷◌, [], ◌++◌};
-ghost use Rattle.script.specs.Puts.{Puts};
+// The lines that answer a call.
+ghost use Rattle.std.specs.Prelude.{OnOk};
+ghost use Rattle.script.specs.Puts.{PutsLine};
+ghost use Rattle.script.specs.Texts.{told_text};
 
+use crate::out::Out;
 use rules::Report;
+use std::fmt;
+use std::fmt::Write;
 
-pub fn byte(out: &mut [u8], at: usize, b: u8) -> usize
-    ensures { Puts out.old out.new at (b ∷ []) result }
-{
-    if at < out.len() {
-        out[at] = b;
-        return at + 1;
+// A report as its line says it.
+#[derive(Clone, Copy, Drop)]
+pub struct Told(pub Report);
+
+impl fmt::Display for Told {
+    ghost use Rattle.std.specs.Prelude.{Some};
+
+    ghost output = { λ t. Some (told_text t.0) };
+
+    fn fmt<W: fmt::Write>(&self, f: &mut fmt::Formatter<W>) -> fmt::Result {
+        match self.0 {
+            Report::Moved => write!(f, "moved on"),
+            Report::Frozen => write!(f, "restarted frozen"),
+            Report::Full => write!(f, "restarted full"),
+            Report::Lost => write!(f, "restarted lost"),
+            Report::Pair(k, v) => write!(f, "pair {k} {v}"),
+            Report::Value(v) => write!(f, "finished value {v}"),
+            Report::Absent => write!(f, "finished absent"),
+            Report::Done => write!(f, "finished done"),
+            Report::True => write!(f, "finished true"),
+            Report::False => write!(f, "finished false"),
+            Report::Waiting => write!(f, "waiting"),
+            Report::Finished => write!(f, "finished"),
+            Report::Refused(n) => write!(f, "refused {n}"),
+        }
     }
-    at
-}
-
-pub fn text(out: &mut [u8], at: usize, t: &[u8]) -> usize
-    ensures { Puts out.old out.new at t.now result }
-{
-    let mut n = at;
-    let mut i = 0;
-    while i < t.len() {
-        n = byte(out, n, t[i]);
-        i += 1;
-    }
-    n
-}
-
-pub fn number(out: &mut [u8], at: usize, n: u64) -> usize {
-    let mut digits = itoa::Buffer::new();
-    text(out, at, digits.format(n).as_bytes())
-}
-
-// A text, and the line's end.
-pub fn line(out: &mut [u8], at: usize, t: &[u8]) -> usize {
-    let n = text(out, at, t);
-    byte(out, n, b'\n')
-}
-
-// A text, and a number after it.
-pub fn field(out: &mut [u8], at: usize, t: &[u8], n: u64) -> usize {
-    let m = text(out, at, t);
-    number(out, m, n)
-}
-
-// The same of a number that may be none.
-pub fn perhaps(out: &mut [u8], at: usize, t: &[u8], n: u64) -> usize {
-    let m = text(out, at, t);
-    if n == rules::NONE {
-        return text(out, m, b"none");
-    }
-    number(out, m, n)
-}
-
-// A text, a number, and the line's end.
-pub fn last(out: &mut [u8], at: usize, t: &[u8], n: u64) -> usize {
-    let m = field(out, at, t, n);
-    byte(out, m, b'\n')
-}
-
-// A scan's pair.
-fn pair(out: &mut [u8], at: usize, k: u64, v: u64) -> usize {
-    let m = field(out, at, b"pair ", k);
-    last(out, m, b" ", v)
 }
 
 // A report's line.
-pub fn report(out: &mut [u8], at: usize, r: Report) -> usize {
-    match r {
-        Report::Moved => line(out, at, b"moved on"),
-        Report::Frozen => line(out, at, b"restarted frozen"),
-        Report::Full => line(out, at, b"restarted full"),
-        Report::Lost => line(out, at, b"restarted lost"),
-        Report::Pair(k, v) => pair(out, at, k, v),
-        Report::Value(v) => last(out, at, b"finished value ", v),
-        Report::Absent => line(out, at, b"finished absent"),
-        Report::Done => line(out, at, b"finished done"),
-        Report::True => line(out, at, b"finished true"),
-        Report::False => line(out, at, b"finished false"),
-        Report::Waiting => line(out, at, b"waiting"),
-        Report::Finished => line(out, at, b"finished"),
-        Report::Refused(n) => last(out, at, b"refused ", n),
-    }
+pub fn report(out: &mut Out, r: Report) -> fmt::Result
+    ensures { OnOk result (PutsLine out.old.bytes.now out.new.bytes.now out.old.at (told_text r) out.new.at) }
+{
+    out.writeln(Told(r))
+}
+
+// A line of the text.
+pub fn text_line(out: &mut Out, text: &str) -> fmt::Result
+    ensures { OnOk result (PutsLine out.old.bytes.now out.new.bytes.now out.old.at text.now out.new.at) }
+{
+    out.writeln(text)
 }

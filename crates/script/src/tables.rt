@@ -1,135 +1,204 @@
 // A line for each row of the tables.
-use crate::print;
-use rules::{Chunk, Directory, Entry, IndexRow, Task};
+ghost use Rattle.std.specs.Prelude.{◌≡◌, Some};
+ghost use Rattle.script.specs.Texts.{new_chunk_text, stage_text, directory_text, perhaps_text, flag_text, status_text, index_text, chunk_text, entry_text, handle_text};
+
+use rules::{Chunk, Directory, Entry, IndexRow, RebalanceStage, Task};
+use std::fmt;
+
+// A number that may be none.
+#[derive(Clone, Copy, Drop)]
+struct Perhaps(u64);
+
+impl fmt::Display for Perhaps {
+    ghost output = { λ t. Some (perhaps_text t.0) };
+
+    fn fmt<W: fmt::Write>(&self, f: &mut fmt::Formatter<W>) -> fmt::Result {
+        match self.0 {
+            rules::NONE => write!(f, "none"),
+            n => write!(f, "{n}"),
+        }
+    }
+}
+
+// A word where a flag is set.
+fn flag(mark: u64, text: &'static str) -> &'static str
+    ensures { result.now ≡ flag_text mark text.now }
+{
+    if mark == 0 { "" } else { text }
+}
 
 // The new chunks of a rebalance, as far as there are any.
-fn new_chunk(out: &mut [u8], at: usize, c: u64) -> usize {
-    if c == rules::NONE {
-        return at;
+#[derive(Clone, Copy, Drop)]
+struct NewChunk(u64);
+
+impl fmt::Display for NewChunk {
+    ghost output = { λ t. Some (new_chunk_text t.0) };
+
+    fn fmt<W: fmt::Write>(&self, f: &mut fmt::Formatter<W>) -> fmt::Result {
+        match self.0 {
+            rules::NONE => Ok(()),
+            c => write!(f, " new {c}"),
+        }
     }
-    print::field(out, at, b" new ", c)
 }
 
-// A rebalance under way: the stage that comes next.
-fn rebalance_stage(out: &mut [u8], at: usize, stage: u64) -> usize {
-    if stage == 1 {
-        return print::text(out, at, b"rebalance drain");
+// The stage that comes next.
+fn stage_name(stage: RebalanceStage) -> &'static str
+    ensures { result.now ≡ stage_text stage }
+{
+    match stage {
+        RebalanceStage::Drain => "drain",
+        RebalanceStage::Copy => "copy",
+        RebalanceStage::SwapIn => "swap-in",
+        RebalanceStage::Index => "index",
+        RebalanceStage::Release => "release",
     }
-    if stage == 2 {
-        return print::text(out, at, b"rebalance copy");
+}
+
+// The directory's own row: its first live chunk, and the rebalance, idle or its stage, its old chunk and its new ones.
+#[derive(Clone, Copy, Drop)]
+pub struct DirectoryLines(pub Directory);
+
+impl fmt::Display for DirectoryLines {
+    ghost output = { λ t. Some (directory_text t.0) };
+
+    fn fmt<W: fmt::Write>(&self, f: &mut fmt::Formatter<W>) -> fmt::Result {
+        let d = self.0;
+        writeln!(f, "directory first {}", d.first.0)?;
+        match RebalanceStage::try_from(d.stage) {
+            Err(_) => write!(f, "rebalance idle"),
+            Ok(stage) => write!(
+                f,
+                "rebalance {} old {}{}{}",
+                stage_name(stage),
+                d.old.0,
+                NewChunk(d.new.0),
+                NewChunk(d.second.0)
+            ),
+        }
     }
-    if stage == 3 {
-        return print::text(out, at, b"rebalance swap-in");
+}
+
+// Row i of the index.
+#[derive(Clone, Copy, Drop)]
+pub struct IndexLine(pub usize, pub IndexRow);
+
+impl fmt::Display for IndexLine {
+    ghost output = { λ t. Some (index_text t.0 t.1) };
+
+    fn fmt<W: fmt::Write>(&self, f: &mut fmt::Formatter<W>) -> fmt::Result {
+        let IndexLine(i, x) = *self;
+        write!(f, "index {i} min {} chunk {}", x.min, x.chunk.0)
     }
-    if stage == 4 {
-        return print::text(out, at, b"rebalance index");
+}
+
+// A chunk's status.
+fn status_name(c: Chunk) -> &'static str
+    ensures { result.now ≡ status_text c.status }
+{
+    match c.status {
+        Chunk::LIVE => "live",
+        Chunk::NEW => "new",
+        _ => "retired",
     }
-    print::text(out, at, b"rebalance release")
 }
 
-// The rebalance: idle, or its stage, its old chunk and its new ones.
-fn rebalance_line(out: &mut [u8], at: usize, d: Directory) -> usize {
-    if d.stage == 0 {
-        return print::line(out, at, b"rebalance idle");
+// Chunk i.
+#[derive(Clone, Copy, Drop)]
+pub struct ChunkLine(pub usize, pub Chunk);
+
+impl fmt::Display for ChunkLine {
+    ghost output = { λ t. Some (chunk_text t.0 t.1) };
+
+    fn fmt<W: fmt::Write>(&self, f: &mut fmt::Formatter<W>) -> fmt::Result {
+        let ChunkLine(i, c) = *self;
+        write!(
+            f,
+            "chunk {i} {}{}",
+            status_name(c),
+            flag(c.frozen, " frozen")
+        )?;
+        write!(
+            f,
+            " min {} next {} head {} used {}",
+            c.min,
+            Perhaps(c.next.0),
+            Perhaps(c.head.0),
+            c.used
+        )
     }
-    let n = rebalance_stage(out, at, d.stage);
-    let n = print::field(out, n, b" old ", d.old.0);
-    let n = new_chunk(out, n, d.new.0);
-    let n = new_chunk(out, n, d.second.0);
-    print::byte(out, n, b'\n')
 }
 
-// The directory's own row: two lines.
-pub fn directory_lines(out: &mut [u8], at: usize, d: Directory) -> usize {
-    let n = print::last(out, at, b"directory first ", d.first.0);
-    rebalance_line(out, n, d)
-}
+// Chunk i's entry e.
+#[derive(Clone, Copy, Drop)]
+pub struct EntryLine(pub usize, pub usize, pub Entry);
 
-pub fn index_line(out: &mut [u8], at: usize, i: u64, x: IndexRow) -> usize {
-    let n = print::field(out, at, b"index ", i);
-    let n = print::field(out, n, b" min ", x.min);
-    print::last(out, n, b" chunk ", x.chunk.0)
-}
+impl fmt::Display for EntryLine {
+    ghost output = { λ t. Some (entry_text t.0 t.1 t.2) };
 
-fn status(out: &mut [u8], at: usize, s: u64) -> usize {
-    if s == 1 {
-        return print::text(out, at, b" live");
+    fn fmt<W: fmt::Write>(&self, f: &mut fmt::Formatter<W>) -> fmt::Result {
+        let EntryLine(i, e, x) = *self;
+        write!(
+            f,
+            "entry {i} {e} key {} handle {} next {}",
+            x.key,
+            Perhaps(x.handle.0),
+            Perhaps(x.next.0)
+        )
     }
-    if s == 2 {
-        return print::text(out, at, b" new");
+}
+
+// Handle h's value and mark.
+#[derive(Clone, Copy, Drop)]
+pub struct HandleLine(pub usize, pub u64, pub u64);
+
+impl fmt::Display for HandleLine {
+    ghost output = { λ t. Some (handle_text t.0 t.1 t.2) };
+
+    fn fmt<W: fmt::Write>(&self, f: &mut fmt::Formatter<W>) -> fmt::Result {
+        let HandleLine(h, value, mark) = *self;
+        write!(f, "handle {h} value {value}{}", flag(mark, " deleted"))
     }
-    print::text(out, at, b" retired")
 }
 
-fn mark(out: &mut [u8], at: usize, m: u64, t: &[u8]) -> usize {
-    if m == 0 {
-        return at;
+// Task i: what it does, and what it holds. Its text is not stated: with so many writes the proof did not close.
+#[derive(Clone, Copy, Drop)]
+pub struct TaskLine(pub usize, pub Task);
+
+impl fmt::Display for TaskLine {
+    fn fmt<W: fmt::Write>(&self, f: &mut fmt::Formatter<W>) -> fmt::Result {
+        let TaskLine(i, t) = *self;
+        write!(f, "task {i} stage {} operation {}", t.stage, t.operation)?;
+        write!(
+            f,
+            " function {} key {} argument {}",
+            t.function, t.key, t.argument
+        )?;
+        write!(
+            f,
+            " chunk {} entry {}",
+            Perhaps(t.chunk.0),
+            Perhaps(t.entry.0)
+        )?;
+        write!(f, " old {} new {}", Perhaps(t.old.0), Perhaps(t.new.0))?;
+        write!(f, " published {} swapped {}", t.published, t.swapped)
     }
-    print::text(out, at, t)
 }
 
-pub fn chunk_line(out: &mut [u8], at: usize, i: u64, c: Chunk) -> usize {
-    let n = print::field(out, at, b"chunk ", i);
-    let n = status(out, n, c.status);
-    let n = mark(out, n, c.frozen, b" frozen");
-    let n = print::field(out, n, b" min ", c.min);
-    let n = print::perhaps(out, n, b" next ", c.next.0);
-    let n = print::perhaps(out, n, b" head ", c.head.0);
-    print::last(out, n, b" used ", c.used)
-}
+// The entries on task i's stack, the top last; the first word that is none ends them. Its text is not stated: the loop would need an invariant on what an unknown writer has taken.
+#[derive(Clone, Copy, Drop)]
+pub struct StackLine<'a>(pub usize, pub &'a [u64]);
 
-pub fn entry_line(out: &mut [u8], at: usize, i: u64, e: u64, x: Entry) -> usize {
-    let n = print::field(out, at, b"entry ", i);
-    let n = print::field(out, n, b" ", e);
-    let n = print::field(out, n, b" key ", x.key);
-    let n = print::perhaps(out, n, b" handle ", x.handle.0);
-    let n = print::perhaps(out, n, b" next ", x.next.0);
-    print::byte(out, n, b'\n')
-}
-
-pub fn handle_line(out: &mut [u8], at: usize, h: u64, value: u64, deleted: u64) -> usize {
-    let n = print::field(out, at, b"handle ", h);
-    let n = print::field(out, n, b" value ", value);
-    let n = mark(out, n, deleted, b" deleted");
-    print::byte(out, n, b'\n')
-}
-
-// What a task does.
-fn task_work(out: &mut [u8], at: usize, i: u64, t: Task) -> usize {
-    let n = print::field(out, at, b"task ", i);
-    let n = print::field(out, n, b" stage ", t.stage);
-    let n = print::field(out, n, b" operation ", t.operation);
-    let n = print::field(out, n, b" function ", t.function);
-    let n = print::field(out, n, b" key ", t.key);
-    print::field(out, n, b" argument ", t.argument)
-}
-
-// What a task holds.
-fn task_holds(out: &mut [u8], at: usize, t: Task) -> usize {
-    let n = print::perhaps(out, at, b" chunk ", t.chunk.0);
-    let n = print::perhaps(out, n, b" entry ", t.entry.0);
-    let n = print::perhaps(out, n, b" old ", t.old.0);
-    let n = print::perhaps(out, n, b" new ", t.new.0);
-    let n = print::field(out, n, b" published ", t.published);
-    print::last(out, n, b" swapped ", t.swapped)
-}
-
-pub fn task_line(out: &mut [u8], at: usize, i: u64, t: Task) -> usize {
-    let n = task_work(out, at, i, t);
-    task_holds(out, n, t)
-}
-
-// A stack's line: whose it is.
-pub fn stack_begins(out: &mut [u8], at: usize, i: u64) -> usize {
-    print::field(out, at, b"stack ", i)
-}
-
-// An entry on it.
-pub fn stack_entry(out: &mut [u8], at: usize, e: u64) -> usize {
-    print::field(out, at, b" ", e)
-}
-
-// The line's end.
-pub fn stack_ends(out: &mut [u8], at: usize) -> usize {
-    print::byte(out, at, b'\n')
+impl fmt::Display for StackLine<'_> {
+    fn fmt<W: fmt::Write>(&self, f: &mut fmt::Formatter<W>) -> fmt::Result {
+        let StackLine(i, words) = *self;
+        write!(f, "stack {i}")?;
+        for e in words {
+            if *e == rules::NONE {
+                break;
+            }
+            write!(f, " {e}")?;
+        }
+        Ok(())
+    }
 }

@@ -1,22 +1,32 @@
 -- What a task holds: the table of stages is the stage list, and the rule taken apart as the code tests it.
 use Prim.Native.Nat.{ℕ, zero, suc, ◌+◌, ◌≤◌, ◌<◌}
-use mathlib.Core.Path.{◌≡◌, refl, ap, ◌∙◌}
-use mathlib.Core.Bool.{Bool, true, false, ◌&&◌}
+use mathlib.Core.Path.{◌≡◌, refl, sym, ◌∙◌}
+use mathlib.Core.Bool.{Bool, true, false, ◌&&◌, false≢true}
 use mathlib.Core.List.{List, [], ◌∷◌, map}
+use mathlib.Core.Logic.{◌⊎◌, inl, inr}
 use native.Mathlib.Omega.{arith}
 use lib.Dec.{eqb, ltb}
 use lib.ListN.{get_or, get_or-map}
-use borrow.Author.Tests.{eqb-true, eqb-false, ltb-true, ne_eqb}
+use borrow.Author.Tests.{eqb-true, eqb-false, ltb-true, le-ltb, ne_eqb}
 use Rattle.rules.specs.declared.Sizes.{Sizes}
 use Rattle.rules.specs.declared.Task.{Task}
-use Rattle.rules.specs.Words.{pick, NONE}
+use Rattle.rules.specs.Words.{pick}
 use Rattle.rules.specs.Tables.{Tables, chunk, mark}
-use Rattle.rules.specs.Shape.{each, Hold, hold, stage_list, is_none, held_as, mark_as, flag_as, holds_entry, holds_right}
+use Rattle.rules.specs.Shape.{each, Hold, hold, stage_list, is_none, numbers, held_as, mark_as, flag_as, holds_entry, holds_right}
+use Rattle.shape.specs.declared.stages.How.{How}
+use Rattle.shape.specs.declared.stages.How.TheVariants.{Never, Always, Perhaps, Deleted}
 use Rattle.shape.specs.declared.stages.Holds.{Holds}
-use Rattle.shape.specs.Parts.{hold_of, of_hold, entry_with_chunk, numbers_right, Listed}
+use Rattle.shape.specs.Parts.{number, hold_of, entry_with_chunk, numbers_right, Listed}
 use Rattle.listed.proofs.Tests.{and-and, and_left, and_right, both-fail, both_hold}
 
 -- ---- the table
+-- how a number of the list is spelled in the table, and a row of it
+abbrev pub how_of : ℕ → How
+how_of n = pick (eqb n 0) Never (pick (eqb n 1) Always (pick (eqb n 2) Perhaps Deleted))
+
+abbrev pub of_hold : Hold → Holds
+of_hold h = record { chunk = how_of h.chunk; entry = how_of h.entry; old = how_of h.old; new = how_of h.new; published = how_of h.published; swapped = how_of h.swapped }
+
 each_at : {A : Type 0} (p : A → Bool) (d : A) → p d ≡ true → (l : List A) (i : ℕ) → each (λ n x. p x) i l ≡ true → (n : ℕ) → p (get_or l n d) ≡ true
 unfolding each
 each_at p d q [] i h n = q
@@ -28,16 +38,16 @@ pub table-listed : (n : ℕ) → Listed n (get_or (map of_hold stage_list) n (of
 unfolding each
 table-listed n =
     record {
-      row = ap hold_of (get_or-map of_hold stage_list n (hold 0 0 0 0 0 0));
+      row = sym (get_or-map hold_of (map of_hold stage_list) n (of_hold (hold 0 0 0 0 0 0)));
       paired = each_at entry_with_chunk (of_hold (hold 0 0 0 0 0 0)) refl (map of_hold stage_list) 0 refl n;
     }
 
 -- ---- an entry is held with its chunk, or not
 module _ (h : Holds) (p : entry_with_chunk h ≡ true) where
-  pub entry-one : (h.entry ≡ 0 → ⊥) → (h.entry ≡ 1) × (h.chunk ≡ 1)
+  pub entry-one : (number h.entry ≡ 0 → ⊥) → (number h.entry ≡ 1) × (number h.chunk ≡ 1)
   entry-one m =
-      let q : pick (eqb h.entry 1) (eqb h.chunk 1) false ≡ true = rw (ne_eqb h.entry 0 m) at p in
-      (eqb-true h.entry 1 (and_left (eqb h.entry 1) _ q), eqb-true h.chunk 1 (and_right (eqb h.entry 1) _ q))
+      let q : pick (eqb (number h.entry) 1) (eqb (number h.chunk) 1) false ≡ true = rw (ne_eqb (number h.entry) 0 m) at p in
+      (eqb-true (number h.entry) 1 (and_left (eqb (number h.entry) 1) _ q), eqb-true (number h.chunk) 1 (and_right (eqb (number h.entry) 1) _ q))
 
 -- ---- the rule taken apart
 module _ (z : Sizes) (s : Tables) (t : Task) (h : Hold) where
@@ -80,10 +90,23 @@ module _ (z : Sizes) (t : Task) (h : Hold) (n : numbers_right z t h ≡ true) wh
       let w' : held_as 1 z.entries t.entry.0 ≡ true = rw e at w in
       ltb-true t.entry.0 z.entries w'
 
--- a task without a chunk has no entry
-pub no-entry : (z : Sizes) (t : Task) (h : Holds) → entry_with_chunk h ≡ true → numbers_right z t (hold_of h) ≡ true → z.chunks ≤ NONE → t.chunk.0 ≡ NONE → eqb h.entry 0 ≡ true
-no-entry z t h p n fits none = go (eqb h.entry 0) refl
+pub holding : (how : How) → (how ≡ Always) ⊎ ((how ≡ Perhaps) ⊎ (how ≡ Deleted)) → eqb (number how) 0 ≡ false
+holding how (inl e) = rw e
+holding how (inr (inl e)) = rw e
+holding how (inr (inr e)) = rw e
+
+none-held : (how size n : ℕ) → held_as how size n ≡ true → size ≤ n → is_none n ≡ true
+none-held how size n h l = go (eqb how 0) (eqb how 2) h
   where
-    go : (b : Bool) → eqb h.entry 0 ≡ b → eqb h.entry 0 ≡ true
+    go : (a b : Bool) → pick a (is_none n) (pick b (numbers size n) (ltb n size)) ≡ true → is_none n ≡ true
+    go true b h = h
+    go false true h = rw (le-ltb n size l) at h
+    go false false h = absurd (false≢true (sym (le-ltb n size l) ∙ h))
+
+-- a task without a chunk has no entry, and nothing is left to ask
+pub no-chunk : (z : Sizes) (s : Tables) (t : Task) (h : Holds) → entry_with_chunk h ≡ true → numbers_right z t (hold_of h) ≡ true → z.chunks ≤ t.chunk.0 → left z s t (hold_of h) ≡ true
+no-chunk z s t h p n l = rw (none-held (number h.chunk) z.chunks t.chunk.0 (and_left (held_as (number h.chunk) z.chunks t.chunk.0) _ n) l, go (eqb (number h.entry) 0) refl)
+  where
+    go : (b : Bool) → eqb (number h.entry) 0 ≡ b → eqb (number h.entry) 0 ≡ true
     go true e = e
-    go false e = let l : t.chunk.0 < z.chunks = held-chunk z t (hold_of h) n (entry-one h p (eqb-false h.entry 0 e)).1 in absurd (omega arith)
+    go false e = let w : t.chunk.0 < z.chunks = held-chunk z t (hold_of h) n (entry-one h p (eqb-false (number h.entry) 0 e)).1 in absurd (omega arith)

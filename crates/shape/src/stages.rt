@@ -1,235 +1,90 @@
 // The stage list as a table: what each of the 24 stages must hold and may hold (document 01, "Stages of a task").
 ghost use Rattle.shape.specs.Parts.{Listed};
 
-// What a stage holds of each: 0 never, 1 always, 2 perhaps; 3, of an old handle: always, and it is deleted.
-#[derive(Clone, Copy)]
-pub struct Holds {
-    pub chunk: u8,
-    pub entry: u8,
-    pub old: u8,
-    pub new: u8,
-    pub published: u8,
-    pub swapped: u8,
+// How a stage holds something: never, always or perhaps; always and deleted, of an old handle.
+#[derive(Clone, Copy, PartialEq, Eq)]
+pub enum How {
+    Never,
+    Always,
+    Perhaps,
+    Deleted,
 }
 
-// The stage list.
+// What a stage holds of each.
+#[derive(Clone, Copy)]
+pub struct Holds {
+    pub chunk: How,
+    pub entry: How,
+    pub old: How,
+    pub new: How,
+    pub published: How,
+    pub swapped: How,
+}
+
+// A row of the list.
+macro_rules! holds {
+    ($chunk:ident, $entry:ident, $old:ident, $new:ident, $published:ident, $swapped:ident) => {
+        Holds {
+            chunk: How::$chunk,
+            entry: How::$entry,
+            old: How::$old,
+            new: How::$new,
+            published: How::$published,
+            swapped: How::$swapped,
+        }
+    };
+}
+
+// The stage list; document 01 names this form, a constant table of 24 rows.
 const STAGES: [Holds; 24] = [
     // 0 idle
-    Holds {
-        chunk: 0,
-        entry: 0,
-        old: 0,
-        new: 0,
-        published: 0,
-        swapped: 0,
-    },
+    holds!(Never, Never, Never, Never, Never, Never),
     // 1 locate
-    Holds {
-        chunk: 0,
-        entry: 0,
-        old: 0,
-        new: 0,
-        published: 0,
-        swapped: 0,
-    },
+    holds!(Never, Never, Never, Never, Never, Never),
     // 2 find
-    Holds {
-        chunk: 1,
-        entry: 0,
-        old: 0,
-        new: 0,
-        published: 0,
-        swapped: 0,
-    },
+    holds!(Always, Never, Never, Never, Never, Never),
     // 3 read
-    Holds {
-        chunk: 1,
-        entry: 1,
-        old: 0,
-        new: 0,
-        published: 0,
-        swapped: 0,
-    },
+    holds!(Always, Always, Never, Never, Never, Never),
     // 4 check
-    Holds {
-        chunk: 1,
-        entry: 1,
-        old: 1,
-        new: 0,
-        published: 0,
-        swapped: 0,
-    },
+    holds!(Always, Always, Always, Never, Never, Never),
     // 5 apply
-    Holds {
-        chunk: 1,
-        entry: 1,
-        old: 1,
-        new: 0,
-        published: 0,
-        swapped: 0,
-    },
+    holds!(Always, Always, Always, Never, Never, Never),
     // 6 take entry
-    Holds {
-        chunk: 1,
-        entry: 0,
-        old: 0,
-        new: 0,
-        published: 0,
-        swapped: 0,
-    },
+    holds!(Always, Never, Never, Never, Never, Never),
     // 7 link
-    Holds {
-        chunk: 1,
-        entry: 1,
-        old: 0,
-        new: 0,
-        published: 0,
-        swapped: 0,
-    },
+    holds!(Always, Always, Never, Never, Never, Never),
     // 8 take handle
-    Holds {
-        chunk: 1,
-        entry: 1,
-        old: 2,
-        new: 0,
-        published: 0,
-        swapped: 0,
-    },
+    holds!(Always, Always, Perhaps, Never, Never, Never),
     // 9 write
-    Holds {
-        chunk: 1,
-        entry: 1,
-        old: 2,
-        new: 1,
-        published: 0,
-        swapped: 0,
-    },
+    holds!(Always, Always, Perhaps, Always, Never, Never),
     // 10 publish
-    Holds {
-        chunk: 1,
-        entry: 1,
-        old: 2,
-        new: 1,
-        published: 0,
-        swapped: 0,
-    },
+    holds!(Always, Always, Perhaps, Always, Never, Never),
     // 11 swap
-    Holds {
-        chunk: 1,
-        entry: 1,
-        old: 2,
-        new: 1,
-        published: 1,
-        swapped: 0,
-    },
+    holds!(Always, Always, Perhaps, Always, Always, Never),
     // 12 unpublish
-    Holds {
-        chunk: 1,
-        entry: 1,
-        old: 2,
-        new: 1,
-        published: 1,
-        swapped: 2,
-    },
+    holds!(Always, Always, Perhaps, Always, Always, Perhaps),
     // 13 publish
-    Holds {
-        chunk: 1,
-        entry: 1,
-        old: 1,
-        new: 0,
-        published: 0,
-        swapped: 0,
-    },
+    holds!(Always, Always, Always, Never, Never, Never),
     // 14 swap to none
-    Holds {
-        chunk: 1,
-        entry: 1,
-        old: 1,
-        new: 0,
-        published: 1,
-        swapped: 0,
-    },
+    holds!(Always, Always, Always, Never, Always, Never),
     // 15 unpublish
-    Holds {
-        chunk: 1,
-        entry: 1,
-        old: 1,
-        new: 0,
-        published: 1,
-        swapped: 2,
-    },
+    holds!(Always, Always, Always, Never, Always, Perhaps),
     // 16 locate again
-    Holds {
-        chunk: 0,
-        entry: 0,
-        old: 3,
-        new: 0,
-        published: 0,
-        swapped: 0,
-    },
+    holds!(Never, Never, Deleted, Never, Never, Never),
     // 17 find again
-    Holds {
-        chunk: 1,
-        entry: 0,
-        old: 3,
-        new: 0,
-        published: 0,
-        swapped: 0,
-    },
+    holds!(Always, Never, Deleted, Never, Never, Never),
     // 18 read again
-    Holds {
-        chunk: 1,
-        entry: 1,
-        old: 3,
-        new: 0,
-        published: 0,
-        swapped: 0,
-    },
+    holds!(Always, Always, Deleted, Never, Never, Never),
     // 19 publish
-    Holds {
-        chunk: 1,
-        entry: 1,
-        old: 3,
-        new: 0,
-        published: 0,
-        swapped: 0,
-    },
+    holds!(Always, Always, Deleted, Never, Never, Never),
     // 20 swap to none
-    Holds {
-        chunk: 1,
-        entry: 1,
-        old: 3,
-        new: 0,
-        published: 1,
-        swapped: 0,
-    },
+    holds!(Always, Always, Deleted, Never, Always, Never),
     // 21 unpublish
-    Holds {
-        chunk: 1,
-        entry: 1,
-        old: 3,
-        new: 0,
-        published: 1,
-        swapped: 0,
-    },
+    holds!(Always, Always, Deleted, Never, Always, Never),
     // 22 scan
-    Holds {
-        chunk: 0,
-        entry: 0,
-        old: 0,
-        new: 0,
-        published: 0,
-        swapped: 0,
-    },
+    holds!(Never, Never, Never, Never, Never, Never),
     // 23 scan down
-    Holds {
-        chunk: 2,
-        entry: 0,
-        old: 0,
-        new: 0,
-        published: 0,
-        swapped: 0,
-    },
+    holds!(Perhaps, Never, Never, Never, Never, Never),
 ];
 
 // A stage's row of the list; one past it holds nothing.
@@ -240,13 +95,6 @@ pub(crate) fn stage_holds(stage: u64) -> Holds
     if i < 24 {
         STAGES[i]
     } else {
-        Holds {
-            chunk: 0,
-            entry: 0,
-            old: 0,
-            new: 0,
-            published: 0,
-            swapped: 0,
-        }
+        holds!(Never, Never, Never, Never, Never, Never)
     }
 }

@@ -1,56 +1,59 @@
 // The tasks' part of the shape: each task's stage is known, holds what the stage list says, and fits its operation.
-ghost use Rattle.std.specs.Prelude.{◌≡◌, true, ◌+◌, ◌*◌, length, get_or};
+ghost use Rattle.std.specs.Prelude.{◌≡◌, true, ◌<◌, get_or};
 ghost use Rattle.rules.specs.Shape.{each, held_as, mark_as, flag_as, fits_operation, linked_from, is_idle, holds_entry, holds_right, task_right};
-ghost use Rattle.rows.specs.Rows.{task_rows, entry_rows};
-ghost use Rattle.listed.specs.Parts.{asked, kept, Slots};
-ghost use Rattle.shape.specs.Parts.{function_right, numbers_right, hold_of, entry_with_chunk, Long, Held};
+ghost use Rattle.rows.specs.Seen.{seen};
+ghost use Rattle.shape.specs.Parts.{number, function_right, numbers_right, hold_of, entry_with_chunk, Held};
 
-use crate::stages::{Holds, stage_holds};
-use rules::{ChunkNo, EntryNo, HandleNo, NONE, Sizes, Task};
+use crate::stages::{Holds, How, stage_holds};
+use rows::Lent;
+use rules::{Chunk, ChunkNo, EntryNo, Function, HandleNo, NONE, Operation, Sizes, Task};
 
 // A number is held as the list says.
-fn held(how: u8, size: usize, n: u64) -> bool
-    ensures { result ≡ held_as how size n }
+fn held(how: How, size: usize, n: u64) -> bool
+    ensures { result ≡ held_as (number how) size n }
 {
-    if how == 0 {
-        return n == NONE;
+    match how {
+        How::Never => n == NONE,
+        How::Perhaps => listed::in_table(size, n),
+        How::Always | How::Deleted => (n as usize) < size,
     }
-    if how == 2 {
-        return listed::in_table(size, n);
-    }
-    (n as usize) < size
 }
 
 // The old handle is deleted where the list says so.
-fn marked(how: u8, marks: &[u64], h: HandleNo) -> bool
-    ensures { result ≡ mark_as how (get_or marks.now h.0 0) }
+fn marked(how: How, marks: &[u64], h: HandleNo) -> bool
+    ensures { result ≡ mark_as (number how) (get_or marks.now h.0 0) }
 {
-    if how == 3 {
-        return rows::word_at(marks, h) == 1;
+    match how {
+        How::Deleted => rows::word_at(marks, h) == 1,
+        How::Never | How::Always | How::Perhaps => true,
     }
-    true
 }
 
-// A flag is set as the list says.
-fn flagged(how: u8, n: u64) -> bool
-    ensures { result ≡ flag_as how n }
+// A flag is set as the list says; none is said to be deleted, and the rules have 3 for it.
+fn flagged(how: How, n: u64) -> bool
+    ensures { result ≡ flag_as (number how) n }
 {
-    if how == 2 { n <= 1 } else { n == how as u64 }
+    match how {
+        How::Never => n == 0,
+        How::Always => n == 1,
+        How::Perhaps => n <= 1,
+        How::Deleted => n == 3,
+    }
 }
 
 // The stage is one of the operation's.
 fn fits_operation(op: u64, n: u64) -> bool
     ensures { result ≡ fits_operation op n }
 {
-    match op {
-        1 => (1 <= n) & (n <= 4),
-        3 => (1 <= n) & (n <= 4) | (6 <= n) & (n <= 12),
-        2 | 4 => (1 <= n) & (n <= 12),
-        5 => (1 <= n) & (n <= 5) | (13 <= n) & (n <= 15),
-        6 => (1 <= n) & (n <= 5) | (13 <= n) & (n <= 21),
-        7 => n == 22,
-        8 => n == 23,
-        _ => false,
+    match Operation::try_from(op) {
+        Ok(Operation::Get) => matches!(n, 1..=4),
+        Ok(Operation::PutIfAbsent) => matches!(n, 1..=4 | 6..=12),
+        Ok(Operation::Put | Operation::Upsert) => matches!(n, 1..=12),
+        Ok(Operation::Compute) => matches!(n, 1..=5 | 13..=15),
+        Ok(Operation::Remove) => matches!(n, 1..=5 | 13..=21),
+        Ok(Operation::Scan) => n == 22,
+        Ok(Operation::ScanDown) => n == 23,
+        Err(_) => false,
     }
 }
 
@@ -58,63 +61,54 @@ fn fits_operation(op: u64, n: u64) -> bool
 fn function_right(op: u64, function: u64) -> bool
     ensures { result ≡ function_right op function }
 {
-    if (op == 4) | (op == 5) {
-        return (1 <= function) & (function <= 3);
+    match Operation::try_from(op) {
+        Ok(Operation::Upsert | Operation::Compute) => Function::try_from(function).is_ok(),
+        _ => true,
     }
-    true
 }
 
-// The row of an idle task.
+// The row of an idle task, but for its stage.
 fn is_idle(t: Task) -> bool
     ensures { result ≡ is_idle t }
 {
-    (t.operation == 0)
-        & (t.function == 0)
-        & (t.key == 0)
-        & (t.argument == 0)
-        & (t.chunk.0 == NONE)
-        & (t.entry.0 == NONE)
-        & (t.old.0 == NONE)
-        & (t.new.0 == NONE)
-        & (t.published == 0)
-        & (t.swapped == 0)
+    t == Task {
+        stage: t.stage,
+        ..rows::idle_task()
+    }
 }
 
 // Entry `x` is in the chunk's list.
-fn is_linked(z: Sizes, entries: &[u64], c: ChunkNo, head: EntryNo, x: EntryNo) -> bool
-    requires { Slots z entries.now c }
-    ensures { result ≡ linked_from z (entry_rows (z.chunks * z.entries) entries.now) c z.entries head x }
+fn is_linked(s: &Lent, c: ChunkNo, head: EntryNo, x: EntryNo) -> bool
+    requires { c.0 < s.now.z.chunks }
+    ensures { result ≡ linked_from s.now.z (seen s.now).entries c s.now.z.entries head x }
 {
     let mut at = head;
-    let mut left = z.entries;
-    while 0 < left {
-        if z.entries <= at.0 as usize {
+    for _ in 0..s.z.entries {
+        if s.z.entries <= at.0 as usize {
             return false;
         }
-        if at.0 == x.0 {
+        if at == x {
             return true;
         }
-        let y = rows::entry_at(z, entries, c, at);
-        at = y.next;
-        left -= 1;
+        at = rows::entry_at(s.z, s.entries, c, at).next;
     }
     false
 }
 
 // The task's entry is used, has the task's key, and is linked except at 7.
-fn holds_entry(z: Sizes, chunks: &[u64], entries: &[u64], t: Task) -> bool
-    requires { Held z chunks.now entries.now t }
-    ensures { result ≡ holds_entry z (kept z chunks.now entries.now) t }
+fn holds_entry(s: &Lent, t: Task) -> bool
+    requires { Held s.now.z t }
+    ensures { result ≡ holds_entry s.now.z (seen s.now) t }
 {
-    let row = rows::chunk_at(z, chunks, t.chunk);
-    let x = rows::entry_at(z, entries, t.chunk, t.entry);
+    let row = rows::chunk_at(s.z, s.chunks, t.chunk);
+    let x = rows::entry_at(s.z, s.entries, t.chunk, t.entry);
     if !((t.entry.0 < row.used) & (x.key == t.key)) {
         return false;
     }
     if t.stage == 7 {
         return true;
     }
-    is_linked(z, entries, t.chunk, row.head, t.entry)
+    is_linked(s, t.chunk, row.head, t.entry)
 }
 
 // The task's numbers and flags are as the row says.
@@ -130,63 +124,41 @@ fn numbers_right(z: Sizes, t: Task, h: Holds) -> bool
 }
 
 // The task holds what the row says.
-fn holds_right(z: Sizes, chunks: &[u64], entries: &[u64], marks: &[u64], t: Task, h: Holds) -> bool
-    requires { Long z chunks.now entries.now × (entry_with_chunk h ≡ true) }
-    ensures { result ≡ holds_right z (asked z chunks.now entries.now marks.now) t (hold_of h) }
+fn holds_right(s: &Lent, t: Task, h: Holds) -> bool
+    requires { entry_with_chunk h ≡ true }
+    ensures { result ≡ holds_right s.now.z (seen s.now) t (hold_of h) }
 {
-    if !(numbers_right(z, t, h) & marked(h.old, marks, t.old)) {
+    if !(numbers_right(s.z, t, h) & marked(h.old, s.marks, t.old)) {
         return false;
     }
-    if t.chunk.0 == NONE {
+    if s.z.chunks <= t.chunk.0 as usize {
         return true;
     }
-    let row = rows::chunk_at(z, chunks, t.chunk);
-    if row.status == 0 {
+    let row = rows::chunk_at(s.z, s.chunks, t.chunk);
+    if row.status == Chunk::UNUSED {
         return false;
     }
-    if h.entry == 0 {
-        return true;
+    match h.entry {
+        How::Never => true,
+        How::Always | How::Perhaps | How::Deleted => holds_entry(s, t),
     }
-    holds_entry(z, chunks, entries, t)
 }
 
 // A task is idle, or its stage fits its operation and holds what the list says.
-fn task_right(z: Sizes, chunks: &[u64], entries: &[u64], marks: &[u64], t: Task) -> bool
-    requires { Long z chunks.now entries.now }
-    ensures { result ≡ task_right z (asked z chunks.now entries.now marks.now) 0 t }
+fn task_right(s: &Lent, t: Task) -> bool
+    ensures { result ≡ task_right s.now.z (seen s.now) 0 t }
 {
     if t.stage == 0 {
         return is_idle(t);
     }
-    if !fits_operation(t.operation, t.stage) {
-        return false;
-    }
-    if !function_right(t.operation, t.function) {
-        return false;
-    }
-    let h = stage_holds(t.stage);
-    holds_right(z, chunks, entries, marks, t, h)
+    fits_operation(t.operation, t.stage)
+        && function_right(t.operation, t.function)
+        && holds_right(s, t, stage_holds(t.stage))
 }
 
 // Every task.
-pub(crate) fn tasks_right(
-    z: Sizes,
-    tasks: &[u64],
-    chunks: &[u64],
-    entries: &[u64],
-    marks: &[u64],
-) -> bool
-    requires { (length tasks.now ≡ z.tasks * 11 + z.tasks * z.entries) × Long z chunks.now entries.now }
-    ensures { result ≡ each (task_right z (asked z chunks.now entries.now marks.now)) 0 (task_rows z.tasks tasks.now) }
+pub(crate) fn tasks_right(s: &Lent) -> bool
+    ensures { result ≡ each (task_right s.now.z (seen s.now)) 0 (seen s.now).tasks }
 {
-    let size = z.tasks;
-    let mut i = 0;
-    while i < size {
-        let t = rows::task_row(tasks, i);
-        if !task_right(z, chunks, entries, marks, t) {
-            return false;
-        }
-        i += 1;
-    }
-    true
+    (0..s.z.tasks).all(|i| task_right(s, rows::task_row(s.tasks, i)))
 }

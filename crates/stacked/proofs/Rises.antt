@@ -7,23 +7,19 @@ use native.Mathlib.Nat.{zero-add}
 use native.Mathlib.Omega.{arith}
 use native.Mathlib.Decide.{dec_lt, ℕ_discrete}
 use lib.Dec.{eqb, ltb, leb}
-use lib.ListN.{get_or}
+use lib.ListN.{length, get_or}
 use borrow.Author.Tests.{lt-ltb, eq-eqb, ne_eqb, le-leb, lt-leb, leb-true}
 use Rattle.rules.specs.declared.Sizes.{Sizes}
 use Rattle.rules.specs.declared.Entry.{Entry}
 use Rattle.rules.specs.declared.ChunkNo.{ChunkNo}
 use Rattle.rules.specs.declared.EntryNo.{EntryNo}
 use Rattle.rules.specs.Words.{pick, NONE, unused}
-use Rattle.rules.specs.Tables.{empty_entry, empty_chunk, chunk_at, entry_at}
+use Rattle.rules.specs.Tables.{Tables, empty_entry, empty_chunk, chunk, entry_at}
 use Rattle.rules.specs.Shape.{each, is_none, all_none, ascends_from, linked_from, rises_from, slots_of, slot_right, is_empty_chunk, chunk_numbers, chunk_right}
 use Rattle.rules.proofs.Each.{each_at}
-use Rattle.rows.specs.Rows.{chunk_rows, entry_rows}
-use Rattle.rows.proofs.Laws.{length-rows}
-use Rattle.listed.specs.Parts.{listed}
 use Rattle.listed.proofs.Tests.{and_left, and_right}
 use Rattle.listed.proofs.Lists.{linked-past}
-use Rattle.stacked.specs.Stacks.{beside_from}
-use Rattle.stacked.proofs.Words.{none-cons, beside-past}
+use Rattle.stacked.proofs.Words.{none-cons, beside_from, beside-past}
 
 module _ (z : Sizes) (es : List Entry) (c : ChunkNo) where
   abbrev key : EntryNo → ℕ
@@ -162,14 +158,16 @@ module _ (z : Sizes) (es : List Entry) (c : ChunkNo) where
             ∙ rw (lt-ltb e.0 z.entries h, ne_eqb x.0 e.0 m)
 
 -- every list is right, so one is
-list_right : (z : Sizes) (cs es : List ℕ) (c : ChunkNo) → each (chunk_right z (listed z es)) 0 (chunk_rows z.chunks cs) ≡ true → c.0 < z.chunks → ascends_from z (entry_rows (z.chunks * z.entries) es) c (chunk_at (chunk_rows z.chunks cs) c).used z.entries (chunk_at (chunk_rows z.chunks cs) c).head 0 ≡ true
-list_right z cs es c all h =
-    let x = chunk_at (chunk_rows z.chunks cs) c in
-    let one = each_at (chunk_right z (listed z es)) 0 (chunk_rows z.chunks cs) c.0 empty_chunk all (rw length-rows h) in
-    let own = rw zero-add at one in
-    and_right (each (slot_right z (listed z es) x.used) 0 (slots_of z (entry_rows (z.chunks * z.entries) es) c)) _ (and_right (pick (eqb x.status unused) (is_empty_chunk x) (chunk_numbers z (listed z es) x)) _ own)
+module _ (z : Sizes) (t : Tables) (c : ChunkNo) (long : length t.chunks ≡ z.chunks) (all : each (chunk_right z t) 0 t.chunks ≡ true) (inside : c.0 < z.chunks) where
+  list_right : ascends_from z t.entries c (chunk t c).used z.entries (chunk t c).head 0 ≡ true
+  list_right =
+      let x = chunk t c in
+      let one = each_at (chunk_right z t) 0 t.chunks c.0 empty_chunk all (rw long inside) in
+      let own = rw zero-add at one in
+      and_right (each (slot_right z t x.used) 0 (slots_of z t.entries c)) _ (and_right (pick (eqb x.status unused) (is_empty_chunk x) (chunk_numbers z t x)) _ own)
 
-pub beside-rises : (z : Sizes) (cs es : List ℕ) (c : ChunkNo) (head : EntryNo) (w : List EntryNo) → z.entries ≤ NONE → each (chunk_right z (listed z es)) 0 (chunk_rows z.chunks cs) ≡ true → c.0 < z.chunks → head ≡ (chunk_at (chunk_rows z.chunks cs) c).head → beside_from z (entry_rows (z.chunks * z.entries) es) c z.entries head w ≡ rises_from z (entry_rows (z.chunks * z.entries) es) c (chunk_at (chunk_rows z.chunks cs) c).head 0 w
-beside-rises z cs es c head w fits all h q =
-    ap (λ (e : EntryNo). beside_from z (entry_rows (z.chunks * z.entries) es) c z.entries e w) q
-    ∙ sym (rises-in z (entry_rows (z.chunks * z.entries) es) c _ 0 w ∙ beside-in z (entry_rows (z.chunks * z.entries) es) c (chunk_at (chunk_rows z.chunks cs) c).used fits z.entries _ 0 w (list_right z cs es c all h))
+  pub beside-rises : (head : EntryNo) (w : List EntryNo) → z.entries ≤ NONE → head ≡ (chunk t c).head → rises_from z t.entries c (chunk t c).head 0 w ≡ beside_from z t.entries c z.entries head w
+  beside-rises head w fits q =
+      rises-in z t.entries c _ 0 w
+      ∙ beside-in z t.entries c (chunk t c).used fits z.entries _ 0 w list_right
+      ∙ ap (λ (e : EntryNo). beside_from z t.entries c z.entries e w) (sym q)

@@ -1,5 +1,5 @@
 -- A list laid over a stack, entry by entry.
-use Prim.Native.Nat.{ℕ, suc, ◌+◌, ◌-◌, ◌≤◌, ◌<◌}
+use Prim.Native.Nat.{ℕ, suc, ◌+◌, ◌≤◌, ◌<◌}
 use mathlib.Core.Path.{◌≡◌, refl, sym, ap, ◌∙◌}
 use mathlib.Core.List.{List, [], ◌∷◌}
 use native.Mathlib.Omega.{arith}
@@ -52,12 +52,12 @@ module _ (z : Sizes) (before : List ℕ) (n : ℕ) (all : List EntryNo) where
       record { stacks = sym (rw (laid-over all (get_or (stack_rows z before) n [])) at done ∙ set-get_or (stack_rows z now) n []); rows = f.rows }
 
   -- an entry that is passed over, and one that is laid
-  pub filling-passes : (now : List ℕ) (i left : ℕ) (rest more : List EntryNo) → Filling z before now n i left all rest → rest ≡ more → 0 < left → Filling z before now n i (left - 1) all more
-  filling-passes now i left rest more f e h = record { stacks = rw e at f.stacks; rows = f.rows; room = omega (arith, f.room); long = f.long }
+  pub filling-passes : (now : List ℕ) (i left : ℕ) (rest more : List EntryNo) → Filling z before now n i left all rest → rest ≡ more → (fewer : ℕ) → left ≡ fewer + 1 → Filling z before now n i fewer all more
+  filling-passes now i left rest more f e fewer h = record { stacks = rw e at f.stacks; rows = f.rows; room = omega (arith, f.room); long = f.long }
 
-  pub filling-lays : (now then : List ℕ) (i left : ℕ) (rest more : List EntryNo) (e : EntryNo) → Filling z before now n i left all rest → rest ≡ e ∷ more → 0 < left → n < z.tasks → StackPut z now then n i e → length then ≡ length now → Filling z before then n (i + 1) (left - 1) all more
+  pub filling-lays : (now then : List ℕ) (i left : ℕ) (rest more : List EntryNo) (e : EntryNo) → Filling z before now n i left all rest → rest ≡ e ∷ more → (fewer : ℕ) → left ≡ fewer + 1 → n < z.tasks → StackPut z now then n i e → length then ≡ length now → Filling z before then n (i + 1) fewer all more
   unfolding laid
-  filling-lays now then i left rest more e f q h task put same =
+  filling-lays now then i left rest more e f q fewer h task put same =
       let w = get_or (stack_rows z now) n [] in
       let own : get_or (stack_rows z then) n [] ≡ set w i e = rw put.stacks (get_or-set_same (stack_rows z now) n (set w i e) [] (rw length-rows task)) in
       let here : set (stack_rows z before) n (laid 0 all (get_or (stack_rows z before) n [])) ≡ set (stack_rows z now) n (laid (i + 1) more (set w i e)) = rw q at f.stacks in

@@ -3,12 +3,10 @@ use Prim.Native.Nat.{ℕ, ◌-◌, ◌≤◌, ◌<◌}
 use mathlib.Core.Path.{◌≡◌, refl, sym, ap, ◌∙◌}
 use mathlib.Core.Bool.{Bool, true, false}
 use mathlib.Core.List.{List, []}
-use native.Mathlib.Nat.{le_refl}
 use native.Mathlib.Omega.{arith}
-use lib.Dec.{ltb}
 use lib.ListN.{set}
 use lib.Seq.{set-get_or}
-use borrow.Author.Tests.{lt-ltb, le-ltb, ltb-false, eq-eqb, ne_eqb}
+use borrow.Author.Tests.{lt-ltb, le-ltb, eq-eqb, ne_eqb}
 use Rattle.rules.specs.declared.Sizes.{Sizes}
 use Rattle.rules.specs.declared.Task.{Task}
 use Rattle.rules.specs.declared.Chunk.{Chunk}
@@ -22,22 +20,6 @@ use Rattle.rules.specs.Stages.{decide, stage_does, is_lowest, up_to, finishes, f
 use Rattle.rows.specs.Rows.{stack_rows, tables}
 use Rattle.walks.proofs.Laws.{top-on, top-off}
 use Rattle.stacking.specs.Stacked.{Stacked}
-
--- ---- the largest key to fill with
-module _ (z : Sizes) (s : Tables) (t : Task) where
-  pub up-to-first : z.chunks ≤ t.chunk.0 → up_to z s t ≡ t.argument
-  up-to-first out = rw (le-ltb _ _ out, le-ltb t.argument t.argument (le_refl _))
-
-  module _ (c : t.chunk.0 < z.chunks) (x : Chunk) (p : x ≡ chunk s t.chunk) where
-    pub up-to-end : t.argument < x.min → up_to z s t ≡ t.argument
-    up-to-end b = rw (lt-ltb _ _ c, ← p, le-ltb (x.min - 1) t.argument (omega (arith, b)))
-
-    pub up-to-below : x.min ≤ t.argument → up_to z s t ≡ x.min - 1
-    up-to-below b = rw (lt-ltb _ _ c, ← p) (go (ltb (x.min - 1) t.argument) refl)
-      where
-        go : (a : Bool) → ltb (x.min - 1) t.argument ≡ a → pick a (x.min - 1) t.argument ≡ x.min - 1
-        go true q = refl
-        go false q = omega (arith, b, ltb-false (x.min - 1) t.argument q)
 
 -- ---- the stack
 module _ (z : Sizes) (s : Tables) (t u : Task) (n : ℕ) where

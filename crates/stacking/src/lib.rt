@@ -13,10 +13,7 @@ use rules::{Chunk, ChunkNo, Entry, EntryNo, NONE, Sizes, Task};
 fn in_range(k: u64, from: u64, to: u64) -> bool
     ensures { result ≡ lies from to k }
 {
-    if k < from {
-        return false;
-    }
-    k <= to
+    (from..=to).contains(&k)
 }
 
 // The largest key to fill with: the upper end or, once a chunk is held, the last key below its minimum (0 where that is 0).
@@ -24,19 +21,11 @@ fn upper_end(z: Sizes, chunks: &[u64], t: Task) -> u64
     requires { length chunks.now ≡ z.chunks * 6 }
     ensures { (d ts es vs ms : List ℕ) → result ≡ up_to z (tables z d ts chunks.now es vs ms) t }
 {
-    let c = t.chunk;
-    let i = c.0 as usize;
-    if z.chunks <= i {
+    if z.chunks <= t.chunk.0 as usize {
         return t.argument;
     }
-    let x = rows::chunk_at(z, chunks, c);
-    if t.argument < x.min {
-        return t.argument;
-    }
-    if x.min == 0 {
-        return 0;
-    }
-    x.min - 1
+    let x = rows::chunk_at(z, chunks, t.chunk);
+    t.argument.min(x.min.saturating_sub(1))
 }
 
 // The linked entries in range, from the head on, are laid over task `n`'s stack, from the bottom on.
@@ -54,9 +43,8 @@ fn fill(
     ensures { Stacked z tasks.old tasks.new n (over (within_from z (entry_rows (z.chunks * z.entries) entries.now) c from to z.entries head) (get_or (stack_rows z tasks.old) n [])) }
 {
     let mut at = head;
-    let mut i: usize = 0;
-    let mut left = z.entries;
-    while 0 < left {
+    let mut i = 0;
+    for _ in 0..z.entries {
         if z.entries <= at.0 as usize {
             return;
         }
@@ -66,7 +54,6 @@ fn fill(
             i += 1;
         }
         at = x.next;
-        left -= 1;
     }
 }
 

@@ -5,47 +5,37 @@ mod publish;
 
 ghost use Rattle.std.specs.Prelude.{◌≡◌, ◌<◌};
 ghost use Rattle.rules.specs.Stages.{decide};
-ghost use Rattle.rows.specs.Rows.{as_lent, Lends};
-ghost use Rattle.locating.specs.Charted.{Charted};
-ghost use Rattle.taking.specs.Slotted.{Slotted};
+ghost use Rattle.rows.specs.Seen.{seen};
 ghost use Rattle.outcome.specs.Lengths.{Held};
 
-use rules::{Decision, Sizes, Task};
+use outcome::Read;
+use rules::{Decision, Task};
 
 // The step looks at each of the 24 stage numbers, for task number `n`.
-pub fn decide(
-    z: Sizes,
-    directory: &[u64],
-    tasks: &[u64],
-    chunks: &[u64],
-    entries: &[u64],
-    values: &[u64],
-    marks: &[u64],
-    n: usize,
-    t: Task,
-) -> Decision
-    requires { Lends z directory.now tasks.now chunks.now entries.now values.now marks.now × Held z t × (t.stage < 24) × Charted z directory.now chunks.now × (n < z.tasks) × Slotted z chunks.now entries.now }
-    ensures { result ≡ decide z (as_lent z directory.now tasks.now chunks.now entries.now values.now marks.now) n t }
+#[tactic(auto, unfolding(rules::specs::Stages::stage_does))]
+pub fn decide(s: &Read, n: usize, t: Task) -> Decision
+    requires { Held s.now.lent.z t × (t.stage < 24) × (n < s.now.lent.z.tasks) }
+    ensures { result ≡ decide s.now.lent.z (seen s.now.lent) n t }
 {
-    let stage = t.stage;
-    match stage {
+    let lent = &s.lent;
+    match t.stage {
         0 => outcome::stays(t),
-        1 | 16 => seeking::locate(z, directory, chunks, t),
-        2 => seeking::find(z, chunks, entries, t),
-        3 => seeking::read(z, entries, t),
-        4 => changing::check(values, marks, t),
-        5 => changing::apply(values, marks, t),
-        6 => changing::take_entry(z, chunks, t),
-        7 => changing::link(z, chunks, entries, t),
-        8 => changing::take_handle(z, tasks, chunks, entries, t),
+        1 | 16 => seeking::locate(s, t),
+        2 => seeking::find(lent, t),
+        3 => seeking::read(lent, t),
+        4 => changing::check(lent, t),
+        5 => changing::apply(lent, t),
+        6 => changing::take_entry(lent, t),
+        7 => changing::link(lent, t),
+        8 => changing::take_handle(lent.z, lent.tasks, lent.chunks, lent.entries, t),
         9 => changing::write(t),
-        10..=12 => publish::insertion(z, chunks, entries, t),
-        13..=15 => publish::absence(z, chunks, entries, t),
-        17 => seeking::find_again(z, chunks, entries, values, t),
-        18 => seeking::read_again(z, entries, values, t),
-        19..=21 => publish::removal(z, chunks, entries, values, t),
-        22 => scanning::scan(z, directory, chunks, entries, values, marks, t),
-        23 => scanning::scan_down(z, directory, tasks, chunks, entries, values, marks, n, t),
+        10..=12 => publish::insertion(lent, t),
+        13..=15 => publish::absence(lent, t),
+        17 => seeking::find_again(lent, t),
+        18 => seeking::read_again(lent, t),
+        19..=21 => publish::removal(lent, t),
+        22 => scanning::scan(s, t),
+        23 => scanning::scan_down(s, n, t),
         _ => outcome::stays(t),
     }
 }

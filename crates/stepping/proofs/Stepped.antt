@@ -9,15 +9,21 @@ use Rattle.rules.specs.declared.Sizes.{Sizes}
 use Rattle.rules.specs.declared.Task.{Task}
 use Rattle.rules.specs.declared.EntryNo.{EntryNo}
 use Rattle.rules.specs.declared.Decision.{Decision}
-use Rattle.rules.specs.Tables.{Tables, task, with_own}
+use Rattle.rules.specs.Tables.{Tables, task, with_own, idle_task}
 use Rattle.rules.specs.Stages.{decide, stage_does, apply, top_of, is_lowest, stack_then}
 use Rattle.rules.specs.Rebalance.{gives}
 use Rattle.rules.specs.Calls.{steps}
 use Rattle.rules.proofs.Tests.{picked}
+use Rattle.rows.specs.Rows.{tables, task_of}
+use Rattle.rows.proofs.Laws.{row_read}
 use Rattle.turn.specs.declared.Turned.{Turned}
 use Rattle.turn.specs.Turns.{writes}
 use Rattle.turn.proofs.Turning.{turn-steps}
 use Rattle.stacking.proofs.Then.{then-other}
+
+-- the row that is read is the task's
+pub task-read : (z : Sizes) (d ts cs es vs ms : List ℕ) (n : ℕ) → n < z.tasks → (t : Task) → t ≡ task_of ts n → t ≡ task (tables z d ts cs es vs ms) n
+task-read z d ts cs es vs ms n b t e = e ∙ sym (row_read (task_of ts) z.tasks n idle_task b)
 
 -- the tables that a stage has written: a scan down has written nothing, and the stacks are as they were
 module _ (z : Sizes) (s : Tables) (n : ℕ) (t : Task) (written : Tables) (w : written ≡ (writes z s n t).tables) (stacks : written.stacks ≡ s.stacks) where

@@ -1,12 +1,11 @@
 -- A number's binary digits: of a conjunction, of a complement, of a power of two, and of a number's trailing zeros.
-use Prim.Native.Nat.{ℕ, zero, suc, ◌+◌, ◌-◌, ◌/◌, ◌%◌, ◌^◌, ◌≤◌, ◌<◌, min, max, suc-le-suc}
+use Prim.Native.Nat.{ℕ, zero, suc, ◌+◌, ◌-◌, ◌/◌, ◌%◌, ◌^◌, ◌<◌, min, max, suc-le-suc}
 use mathlib.Core.Path.{◌≡◌, refl, sym, ap, ◌∙◌}
 use mathlib.Core.Logic.{◌≢◌}
-use native.Mathlib.Nat.{mod-lt, min-le_left, max-le, lt_of_le_of_lt, zero-lt-suc, not-suc-le-zero, le_of_suc-le-suc, pow-suc, lt_irrefl, lt_of_not-le, div-one}
+use native.Mathlib.Nat.{mod-lt, min-le_left, max-le, lt_of_le_of_lt, zero-lt-suc, not-suc-le-zero, le_of_suc-le-suc, pow-suc, lt_irrefl, div-one}
 use native.Mathlib.Omega.{arith}
-use native.Mathlib.Decide.{dec_le}
 use lib.Arith.{digits_mod, lt-one}
-use lib.Bits.{bit_and, and_step, and_shr, and_mask, bit_or, or_step, or_shr}
+use lib.Bits.{bit_and, and_step, and_shr, bit_or, or_step, or_shr}
 use lib.Count.{count_trailing_zeros, under}
 use lib.Pow.{shr-shr}
 use Rattle.taking.specs.Left.{digit}
@@ -24,12 +23,6 @@ digit-of-zero (suc i) = digit-suc 0 i ∙ digit-of-zero i
 
 pub digit_lt : (w i : ℕ) → digit w i < 2
 digit_lt w i = mod-lt (w / 2 ^ i) (zero-lt-suc 1)
-
--- a number that has no more than k digits has none past them
-pub digit-past : (k w i : ℕ) → w < 2 ^ k → k ≤ i → digit w i ≡ 0
-digit-past zero w i h l = rw (lt-one h) (digit-of-zero i)
-digit-past (suc k) w zero h l = absurd (not-suc-le-zero l)
-digit-past (suc k) w (suc i) h l = digit-suc w i ∙ digit-past k (w / 2) i (omega (arith, pow-suc 2 k, h)) (omega arith)
 
 pub and-digit : (a b i : ℕ) → digit (bit_and a b) i ≡ min (digit a i) (digit b i)
 and-digit a b i =
@@ -49,19 +42,16 @@ not_digit (suc k) w (suc i) h l =
     digit-suc (2 ^ suc k - 1 - w) i ∙ ap (λ (x : ℕ). digit x i) half
     ∙ not_digit k (w / 2) i (omega (arith, pow-suc 2 k, h)) (omega arith) ∙ ap (λ (x : ℕ). 1 - x) (sym (digit-suc w i))
 
-half : (k : ℕ) → 2 ^ suc k / 2 ≡ 2 ^ k
-half k = omega (arith, pow-suc 2 k)
-
 -- a power of two has one digit
 pub pow-here : (i : ℕ) → digit (2 ^ i) i ≡ 1
 pow-here zero = refl
-pow-here (suc i) = digit-suc (2 ^ suc i) i ∙ ap (λ (x : ℕ). digit x i) (half i) ∙ pow-here i
+pow-here (suc i) = digit-suc (2 ^ suc i) i ∙ ap (λ (x : ℕ). digit x i) (omega (arith, pow-suc 2 i)) ∙ pow-here i
 
 pub pow-other : (k i : ℕ) → k ≢ i → digit (2 ^ k) i ≡ 0
 pow-other zero zero ne = absurd (ne refl)
 pow-other zero (suc i) ne = digit-suc 1 i ∙ digit-of-zero i
 pow-other (suc k) zero ne = omega (arith, pow-suc 2 k)
-pow-other (suc k) (suc i) ne = digit-suc (2 ^ suc k) i ∙ ap (λ (x : ℕ). digit x i) (half k) ∙ pow-other k i (λ e. ne (ap suc e))
+pow-other (suc k) (suc i) ne = digit-suc (2 ^ suc k) i ∙ ap (λ (x : ℕ). digit x i) (omega (arith, pow-suc 2 k)) ∙ pow-other k i (λ e. ne (ap suc e))
 
 -- under a number's trailing zeros every digit is 0, and the one after them is 1
 pub under-trailing : (k w i : ℕ) → i < count_trailing_zeros k w → digit w i ≡ 0
@@ -82,10 +72,3 @@ after-trailing (suc k) w p h = go (w % 2) refl (after-trailing k (w / 2))
     go : (d : ℕ) → w % 2 ≡ d → (0 < w / 2 → w / 2 < 2 ^ k → digit (w / 2) (count_trailing_zeros k (w / 2)) ≡ 1) → digit w (under d (count_trailing_zeros k (w / 2))) ≡ 1
     go zero e on = digit-suc w _ ∙ on (omega arith) (omega (arith, pow-suc 2 k))
     go (suc d) e on = omega (arith, mod-lt w (zero-lt-suc 1))
-
-pub trailing_lt : (k w : ℕ) → 0 < w → w < 2 ^ k → count_trailing_zeros k w < k
-trailing_lt k w p h = elim (dec_le k (count_trailing_zeros k w)) [ yes a ↦ absurd (omega (arith, after-trailing k w p h, digit-past k w (count_trailing_zeros k w) h a)) | no a ↦ lt_of_not-le a ]
-
--- a digit is tested by a shift and a mask
-pub tested : (w i : ℕ) → bit_and (w / 2 ^ i) 1 ≡ digit w i
-tested w i = and_mask (w / 2 ^ i) 1

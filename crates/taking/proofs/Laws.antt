@@ -4,21 +4,22 @@ use mathlib.Core.Path.{◌≡◌, refl, sym, ap, ◌∙◌}
 use mathlib.Core.Logic.{◌≢◌}
 use mathlib.Core.Bool.{Bool, true, false, not}
 use mathlib.Core.List.{List}
-use native.Mathlib.Nat.{lt_of_le_of_lt, lt_irrefl, lt_of_not-le, not-suc-le-zero, le-max_left, le-max_right, zero-max, le_of_suc-le-suc, min-zero, min-eq_left, zero-add, one-mul}
+use native.Mathlib.Nat.{lt_of_not-le, le-max_left, le-max_right, zero-max, le_of_suc-le-suc, min-zero, min-eq_left, zero-add, one-mul}
 use native.Mathlib.Omega.{arith}
 use native.Mathlib.Decide.{ℕ_discrete, dec_le}
-use lib.Bits.{bit_and, and_le_l, bit_or, or_lt}
+use lib.Bits.{bit_and, bit_or, or_lt}
 use lib.Count.{count_trailing_zeros}
 use lib.Dec.{eqb, ltb}
 use lib.Pow.{pow-lt, shl_exact}
-use lib.ListN.{get_or, set, length, length-set, replicate, length-replicate, get_or-replicate, get_or-eq_default}
+use lib.ListN.{get_or, set, length, replicate, get_or-replicate}
 use lib.Seq.{get_or-set_same, get_or-set_other}
 use borrow.Author.Tests.{lt-ltb, le-ltb, eq-eqb, ne_eqb}
+use Rattle.std.specs.Prelude.{Some, None}
 use Rattle.rules.specs.declared.Task.{Task}
 use Rattle.rules.specs.declared.Entry.{Entry}
 use Rattle.rules.specs.Words.{pick, handle_no, no_handle}
 use Rattle.rules.specs.Walks.{named_in, held_in, free, free_from}
-use Rattle.taking.specs.Left.{room, digit, bit_at, Laid, Struck, Joined, First, Lowest}
+use Rattle.taking.specs.Left.{room, digit, bit_at, Struck, Joined, First, Lowest}
 use Rattle.taking.proofs.Digits.{digit-of-zero, digit_lt, and-digit, or-digit, not_digit, pow-here, pow-other, under-trailing, after-trailing}
 
 -- ---- one handle
@@ -30,19 +31,19 @@ struck-word w k i kb ib = and-digit w (2 ^ 64 - 1 - 2 ^ k) i ∙ ap (min (digit 
     go (yes e) = rw (e, pow-here i, eq-eqb i i refl) (min-zero (digit w i))
     go (no ne) = rw (pow-other k i ne, ne_eqb k i ne) (min-eq_left (le_of_suc-le-suc (digit_lt w i)))
 
--- the bit of a handle is cleared, by the mask that has it; it stands at n, past the room where the number is
-module _ (w : List ℕ) (laid : Laid w) (h n : ℕ) (in_words_lem : n < 8192) (own : h < room → n ≡ h) (past : room ≤ h → room ≤ n) (mask : ℕ) (has : mask ≡ 2 ^ (n / 128)) where
+-- the bit of a handle is cleared; it stands at n, past the room where the number is
+module _ (w : List ℕ) (long : length w ≡ 128) (h n : ℕ) (in_words_lem : n < 8192) (own : h < room → n ≡ h) (past : room ≤ h → room ≤ n) where
   abbrev word : ℕ
-  word = bit_and (get_or w (n % 128) 0) (2 ^ 64 - 1 - mask)
+  word = bit_and (get_or w (n % 128) 0) (2 ^ 64 - 1 - 1 * 2 ^ (n / 128) % 2 ^ 64)
 
   abbrev cleared : List ℕ
   cleared = set w (n % 128) word
 
-  inside : n % 128 < length w
-  inside = omega (arith, laid.long)
+  has : 1 * 2 ^ (n / 128) % 2 ^ 64 ≡ 2 ^ (n / 128)
+  has = shl_exact 1 (n / 128) 64 (omega arith) (omega arith) ∙ one-mul (2 ^ (n / 128))
 
-  fits : (i : ℕ) → get_or cleared i 0 < 2 ^ 64
-  fits i = elim (ℕ_discrete i (n % 128)) [ yes e ↦ rw (e, get_or-set_same w (n % 128) word 0 inside) (lt_of_le_of_lt (and_le_l (get_or w (n % 128) 0) _) (laid.fits (n % 128))) | no ne ↦ rw (get_or-set_other w (n % 128) i word 0 ne) (laid.fits i) ]
+  inside : n % 128 < length w
+  inside = omega (arith, long)
 
   same : (m : ℕ) → m < room → eqb n m ≡ eqb h m
   same m b = elim (dec_le room h) [ yes l ↦ rw (ne_eqb h m (λ q. absurd (omega arith)), ne_eqb n m (λ q. absurd (omega (arith, past l)))) | no l ↦ rw (own (lt_of_not-le l)) ]
@@ -57,30 +58,17 @@ module _ (w : List ℕ) (laid : Laid w) (h n : ℕ) (in_words_lem : n < 8192) (o
   other m ne = rw (get_or-set_other w (n % 128) (m % 128) word 0 ne, ne_eqb n m (λ q. ne (ap (λ (x : ℕ). x % 128) (sym q))))
 
   pub strikes : Struck w cleared (λ m. eqb h m)
-  strikes = record { laid = record { long = rw (length-set w (n % 128) word) laid.long; fits = fits }; bits = λ m b. elim (ℕ_discrete (m % 128) (n % 128)) [ yes e ↦ here m b e | no ne ↦ other m ne ] ∙ ap (λ (t : Bool). pick t 0 (bit_at w m)) (same m b) }
-
--- one shifted up
-pub shifted : (n : ℕ) → n < 64 → 1 * 2 ^ n % 2 ^ 64 ≡ 2 ^ n
-shifted n b = shl_exact 1 n 64 (omega arith) (omega arith) ∙ one-mul (2 ^ n)
+  strikes = record { bits = λ m b. elim (ℕ_discrete (m % 128) (n % 128)) [ yes e ↦ here m b e | no ne ↦ other m ne ] ∙ ap (λ (t : Bool). pick t 0 (bit_at w m)) (same m b) }
 
 -- ---- all are left
-pub all_laid : (x : ℕ) → x < 2 ^ 64 → Laid (replicate 128 x)
-all_laid x fits = record {
-  long = length-replicate 128 x;
-  fits = λ i. elim (dec_le 128 i) [ yes a ↦ rw (get_or-eq_default (replicate 128 x) 0 {n = i} a) (omega arith) | no a ↦ rw (get_or-replicate 128 i x 0 (lt_of_not-le a)) fits ];
-}
-
 pub all_left : (h : ℕ) → h < room → bit_at (replicate 128 137438953471) h ≡ 1
 all_left h b = rw (get_or-replicate {A = ℕ} 128 (h % 128) 137438953471 0 (omega arith)) (not_digit 37 0 (h / 128) (omega arith) (omega arith) ∙ ap (λ (x : ℕ). 1 - x) (digit-of-zero (h / 128)))
 
 -- ---- the lowest that is left
 module _ (w : List ℕ) where
-  pub joined-starts : Joined w 0 0
-  joined-starts = record { fits = omega arith; none = λ b e i l. absurd (not-suc-le-zero l); some = λ b e. absurd (omega (arith, digit-of-zero b, e)) }
-
-  pub joined-more : (n any : ℕ) → Laid w → Joined w n any → Joined w (n + 1) (bit_or any (get_or w n 0))
-  joined-more n any laid j = record {
-    fits = or_lt 64 any (get_or w n 0) j.fits (laid.fits n);
+  pub joined-more : (n any : ℕ) → get_or w n 0 < 2 ^ 64 → Joined w n any → Joined w (n + 1) (bit_or any (get_or w n 0))
+  joined-more n any fits j = record {
+    fits = or_lt 64 any (get_or w n 0) j.fits fits;
     none = λ b e i l. elim (ℕ_discrete i n) [ yes q ↦ rw q (omega (arith, or-digit any (get_or w n 0) b, le-max_right (digit any b) (digit (get_or w n 0) b))) | no ne ↦ j.none b (omega (arith, or-digit any (get_or w n 0) b, le-max_left (digit any b) (digit (get_or w n 0) b))) i (omega arith) ];
     some = λ b e. elim (ℕ_discrete (digit any b) 1) [ yes q ↦ let s = j.some b q in (s.0, omega (arith, s.1), s.2) | no ne ↦ (n, omega arith, last b e ne) ];
   }
@@ -88,26 +76,21 @@ module _ (w : List ℕ) where
       last : (b : ℕ) → digit (bit_or any (get_or w n 0)) b ≡ 1 → digit any b ≢ 1 → digit (get_or w n 0) b ≡ 1
       last b e ne = let z : digit any b ≡ 0 = omega (arith, digit_lt any b) in sym (zero-max (digit (get_or w n 0) b)) ∙ ap (λ (x : ℕ). max x (digit (get_or w n 0) b)) (sym z) ∙ sym (or-digit any (get_or w n 0) b) ∙ e
 
-  pub lowest-none : Joined w 128 0 → Lowest w room
-  lowest-none j = record { under = λ h b l. j.none (h / 128) (digit-of-zero (h / 128)) (h % 128) (omega arith); here = λ b. absurd (lt_irrefl room b) }
+  -- some word has the bit of the lowest
+  pub some-has : (any : ℕ) → Joined w 128 any → any ≢ 0 → First w (count_trailing_zeros 64 any) None → ⊥
+  some-has any j ne f = let s = j.some (count_trailing_zeros 64 any) (after-trailing 64 any (omega arith) j.fits) in omega (arith, s.2, f s.0 s.1)
 
-  pub lowest-found : (any i : ℕ) → Joined w 128 any → any ≢ 0 → First w (count_trailing_zeros 64 any) i → Lowest w (count_trailing_zeros 64 any * 128 + i)
-  lowest-found any i j ne f = record { under = under; here = λ b. rw (quotient, remainder) (f.here inside) }
+  pub lowest-found : (any i : ℕ) → Joined w 128 any → any ≢ 0 → First w (count_trailing_zeros 64 any) (Some i) → Lowest w (count_trailing_zeros 64 any * 128 + i)
+  lowest-found any i j ne f = record { under = under; here = λ b. rw (quotient, remainder) f.2 }
     where
-      found : (k : ℕ) × (k < 128) × (digit (get_or w k 0) (count_trailing_zeros 64 any) ≡ 1)
-      found = j.some (count_trailing_zeros 64 any) (after-trailing 64 any (omega arith) j.fits)
-
-      inside : i < 128
-      inside = elim (dec_le 128 i) [ yes a ↦ absurd (omega (arith, found.2, f.under found.0 (omega (arith, found.1)))) | no a ↦ lt_of_not-le a ]
-
       quotient : (count_trailing_zeros 64 any * 128 + i) / 128 ≡ count_trailing_zeros 64 any
-      quotient = omega (arith, inside)
+      quotient = omega (arith, f.0)
 
       remainder : (count_trailing_zeros 64 any * 128 + i) % 128 ≡ i
-      remainder = omega (arith, inside)
+      remainder = omega (arith, f.0)
 
       under : (h : ℕ) → h < room → h < count_trailing_zeros 64 any * 128 + i → bit_at w h ≡ 0
-      under h b l = elim (ℕ_discrete (h / 128) (count_trailing_zeros 64 any)) [ yes e ↦ rw e (f.under (h % 128) (omega (arith, e))) | no d ↦ j.none (h / 128) (under-trailing 64 any (h / 128) (omega (arith, inside))) (h % 128) (omega arith) ]
+      under h b l = elim (ℕ_discrete (h / 128) (count_trailing_zeros 64 any)) [ yes e ↦ rw e (f.1 (h % 128) (omega (arith, e))) | no d ↦ j.none (h / 128) (under-trailing 64 any (h / 128) (omega (arith, f.0))) (h % 128) (omega arith) ]
 
 -- ---- it is the lowest free one
 module _ (es : List Entry) (ts : List Task) where

@@ -4,11 +4,10 @@ use mathlib.Core.Path.{◌≡◌, refl, sym, ap, ◌∙◌}
 use mathlib.Core.Logic.{◌≢◌}
 use mathlib.Core.Bool.{Bool, true, false}
 use mathlib.Core.List.{List}
-use native.Mathlib.Nat.{zero-add, add-zero, suc-add, zero-mul, suc-mul, sub-zero, mul-le-mul_right}
+use native.Mathlib.Nat.{zero-add, add-zero, suc-add, suc-mul, mul-le-mul_right}
 use native.Mathlib.Numerals.{add-one}
 use native.Mathlib.Omega.{arith}
 use lib.Dec.{eqb}
-use lib.ListN.{length}
 use borrow.Author.Tests.{ne_eqb}
 use Rattle.rules.specs.declared.Sizes.{Sizes}
 use Rattle.rules.specs.declared.Task.{Task}
@@ -19,7 +18,7 @@ use Rattle.rules.specs.Words.{pick, handle_no}
 use Rattle.rules.specs.Walks.{named_in, held_in}
 use Rattle.rows.specs.Rows.{rows_from, chunk_of, entry_of, entry_rows}
 use Rattle.rows.proofs.Laws.{rows_step, rows-done, rows-below}
-use Rattle.taking.specs.Left.{room, bit_at, Laid, Struck}
+use Rattle.taking.specs.Left.{room, bit_at, Struck}
 use Rattle.taking.specs.Slotted.{Slotted}
 
 either : (a b c : Bool) → pick a true (pick b true c) ≡ pick (pick a true b) true c
@@ -27,14 +26,10 @@ either true b c = refl
 either false b c = refl
 
 pub record Striking (before now : List ℕ) (all rest : ℕ → Bool) : Type 0 where
-  pub laid : Laid now
   pub bits : (h : ℕ) → h < room → pick (rest h) 0 (bit_at now h) ≡ pick (all h) 0 (bit_at before h)
 
-pub striking-starts : (w : List ℕ) (all : ℕ → Bool) → Laid w → Striking w w all all
-striking-starts w all laid = record { laid = laid; bits = λ h b. refl }
-
 pub striking-more : (before now after : List ℕ) (all rest rest' off : ℕ → Bool) → Striking before now all rest → Struck now after off → ((h : ℕ) → h < room → rest h ≡ pick (off h) true (rest' h)) → Striking before after all rest'
-striking-more before now after all rest rest' off s t e = record { laid = t.laid; bits = λ h b. rw (t.bits h b) (both (off h) (rest' h) (bit_at now h) ∙ ap (λ (x : Bool). pick x 0 (bit_at now h)) (sym (e h b)) ∙ s.bits h b) }
+striking-more before now after all rest rest' off s t e = record { bits = λ h b. rw (t.bits h b) (both (off h) (rest' h) (bit_at now h) ∙ ap (λ (x : Bool). pick x 0 (bit_at now h)) (sym (e h b)) ∙ s.bits h b) }
   where
     both : (a b : Bool) (n : ℕ) → pick b 0 (pick a 0 n) ≡ pick (pick a true b) 0 n
     both true true n = refl
@@ -42,7 +37,7 @@ striking-more before now after all rest rest' off s t e = record { laid = t.laid
     both false b n = refl
 
 pub striking-done : (before after : List ℕ) (all rest : ℕ → Bool) → Striking before after all rest → ((h : ℕ) → rest h ≡ false) → Struck before after all
-striking-done before after all rest s e = record { laid = s.laid; bits = λ h b. ap (λ (x : Bool). pick x 0 (bit_at after h)) (sym (e h)) ∙ s.bits h b }
+striking-done before after all rest s e = record { bits = λ h b. ap (λ (x : Bool). pick x 0 (bit_at after h)) (sym (e h)) ∙ s.bits h b }
 
 -- ---- what a row strikes off, and those after it
 module _ (n i : ℕ) where
@@ -91,9 +86,6 @@ module _ (z : Sizes) (es before : List ℕ) where
   abbrev pub Going : List ℕ → ℕ → Type 0
   Going now c = Striking before now (λ h. named_in (entry_rows (z.chunks * z.entries) es) (handle_no h)) (λ h. named_in (rows_from (entry_of es) (c * z.entries) (z.chunks * z.entries - c * z.entries)) (handle_no h))
 
-  pub going-starts : Laid before → Going before 0
-  going-starts laid = rw (zero-mul z.entries, sub-zero) (striking-starts before (λ h. named_in (entry_rows (z.chunks * z.entries) es) (handle_no h)) laid)
-
   pub going_more : (cs : List ℕ) → Slotted z cs es → (now after : List ℕ) (c : ℕ) → c < z.chunks → (x : Chunk) → x ≡ chunk_of cs c → (first : ℕ) → first ≡ c * z.entries → Going now c → Struck now after (λ h. named_in (rows_from (entry_of es) first (first + x.used - first)) (handle_no h)) → Going after (c + 1)
   going_more cs slotted now after c b x q first e g t = striking-more before now after _ _ _ _ g t (λ h l. rw (next, e) (stretch (entry_of es) (handle_no h) (z.chunks * z.entries) (c * z.entries) x.used z.entries (rows-below z.chunks z.entries c b) (rw q (slotted.used c b)) (others h l)))
     where
@@ -109,7 +101,3 @@ module _ (z : Sizes) (es before : List ℕ) where
 
   pub going_done : (after : List ℕ) (c : ℕ) → z.chunks ≤ c → Going after c → Struck before after (λ h. named_in (entry_rows (z.chunks * z.entries) es) (handle_no h))
   going_done after c b g = striking-done before after _ _ g (named-done (z.chunks * z.entries) (c * z.entries) (entry_of es) (mul-le-mul_right z.entries b))
-
--- a chunk's used slots lie within the entries' words
-pub used-within : (z : Sizes) (cs es : List ℕ) → Slotted z cs es → (c : ℕ) → c < z.chunks → (x : Chunk) → x ≡ chunk_of cs c → (first : ℕ) → first + z.entries ≤ z.chunks * z.entries → (first + x.used) * 3 ≤ length es
-used-within z cs es slotted c b x q first fits = let within : x.used ≤ z.entries = rw q (slotted.used c b) in omega (arith, slotted.entries)

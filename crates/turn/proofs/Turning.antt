@@ -1,6 +1,6 @@
--- What a decision leaves is what the stage leaves; and the lent task, put back into its row, is the rules' step.
+-- The lent task, put back into its row, is the rules' step.
 use Prim.Native.Nat.{ℕ, ◌<◌}
-use mathlib.Core.Path.{◌≡◌, refl, ap, ◌∙◌}
+use mathlib.Core.Path.{◌≡◌, refl}
 use mathlib.Core.Bool.{Bool, true, false}
 use mathlib.Core.List.{List}
 use lib.Dec.{ltb}
@@ -11,18 +11,12 @@ use Rattle.rules.specs.declared.Task.{Task}
 use Rattle.rules.specs.declared.EntryNo.{EntryNo}
 use Rattle.rules.specs.declared.Write.{Write}
 use Rattle.rules.specs.declared.Write.TheVariants as write
-use Rattle.rules.specs.declared.Decision.{Decision}
 use Rattle.rules.specs.Words.{pick}
 use Rattle.rules.specs.Tables.{Tables, task, with_own}
 use Rattle.rules.specs.Stages.{decide, stack_then, apply}
 use Rattle.rules.specs.Rebalance.{gives}
 use Rattle.rules.specs.Calls.{steps}
 use Rattle.turn.specs.Turns.{writes}
-
--- a decision's task, its write done, and its report
-pub turns : (z : Sizes) (s : Tables) (n : ℕ) (t : Task) (x : Decision) → x ≡ decide z s n t → (after : Tables) → after ≡ apply z s x.write
-    → (x.task ≡ (decide z s n t).task) × (gives after x.report ≡ writes z s n t)
-turns z s n t x e after p = (ap (λ (y : Decision). y.task) e, ap (λ (u : Tables). gives u x.report) p ∙ ap (λ (y : Decision). gives (apply z s y.write) y.report) e)
 
 -- a stage's write leaves what is the tasks' own
 module _ (ts : List Task) (ws : List (List EntryNo)) where

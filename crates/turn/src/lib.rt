@@ -10,7 +10,9 @@ ghost use Rattle.taking.specs.Slotted.{Slotted};
 ghost use Rattle.outcome.specs.Lengths.{Held};
 ghost use Rattle.turn.specs.Turns.{writes};
 
-use rules::{Report, Sizes, Task};
+use outcome::Read;
+use rows::Lent;
+use rules::{Decision, Report, Sizes, Task};
 
 // What a stage leaves of its task, and the report.
 #[derive(Clone, Copy)]
@@ -34,12 +36,21 @@ pub fn move_on(
     requires { Lends z directory.now tasks.now chunks.old entries.old values.old marks.old × Held z t × (t.stage < 24) × Charted z directory.now chunks.old × (n < z.tasks) × Slotted z chunks.old entries.old }
     ensures { (result.task ≡ (decide z (as_lent z directory.now tasks.now chunks.old entries.old values.old marks.old) n t).task) × (gives (as_left z directory.now tasks.now chunks.new entries.new values.new marks.new) result.report ≡ writes z (as_lent z directory.now tasks.now chunks.old entries.old values.old marks.old) n t) }
 {
-    let x = stages::decide(z, directory, tasks, chunks, entries, values, marks, n, t);
-    let next = x.task;
-    let w = x.write;
-    let report = x.report;
-    writes::apply(z, chunks, entries, values, marks, w);
-    Turned { task: next, report }
+    let lent = Lent {
+        z,
+        directory,
+        tasks,
+        chunks: &*chunks,
+        entries: &*entries,
+        values: &*values,
+        marks: &*marks,
+    };
+    let x = stages::decide(&Read { lent }, n, t);
+    writes::apply(z, chunks, entries, values, marks, x.write);
+    Turned {
+        task: x.task,
+        report: x.report,
+    }
 }
 
 // The stage, with the task lent.

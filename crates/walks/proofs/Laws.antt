@@ -1,9 +1,10 @@
 -- One step of each walk, told by the row that the code has read.
 use Prim.Native.Nat.{ℕ, zero, suc, ◌+◌, ◌*◌, ◌-◌, ◌≤◌, ◌<◌, zero-le}
 use mathlib.Core.Path.{◌≡◌, refl, sym, ap, ◌∙◌}
-use mathlib.Core.Bool.{Bool, true, false}
+use mathlib.Core.Bool.{Bool, true, false, true≢false}
+use mathlib.Core.Logic.{◌≢◌}
 use mathlib.Core.List.{List, [], ◌∷◌}
-use native.Mathlib.Nat.{lt_irrefl, le_antisymm, zero-lt-suc, not-suc-le-zero, le_of_suc-le-suc, mul-le-mul_right}
+use native.Mathlib.Nat.{le_antisymm, zero-lt-suc, not-suc-le-zero, le_of_suc-le-suc, mul-le-mul_right}
 use native.Mathlib.Numerals.{add-one, sub-one}
 use native.Mathlib.Omega.{arith}
 use borrow.Author.Tests.{lt-ltb, le-ltb, ltb-true, ltb-false, le-leb, lt-leb, eq-eqb, ne_eqb}
@@ -15,17 +16,17 @@ use Rattle.rules.specs.declared.Chunk.{Chunk}
 use Rattle.rules.specs.declared.Entry.{Entry}
 use Rattle.rules.specs.declared.ChunkNo.{ChunkNo}
 use Rattle.rules.specs.declared.EntryNo.{EntryNo}
-use Rattle.rules.specs.Words.{pick, ◌and◌, NONE, chunk_no, no_chunk, no_entry, unused}
+use Rattle.rules.specs.Words.{pick, NONE, chunk_no, no_chunk, no_entry, unused}
 use Rattle.rules.specs.Tables.{chunk_at, entry_at}
 use Rattle.rules.specs.Walks.{locate_from, before_from, find_from, place_from, lies, within_from, depth, top}
-use Rattle.rules.specs.Rebalance.{unused_count, unused_from, published_on, held_chunk}
+use Rattle.rules.specs.Rebalance.{unused_from, published_on, held_chunk}
 use Rattle.rows.specs.Rows.{rows_from, stack_of, stack_rows}
+use Rattle.walks.specs.Found.{publishes_on}
 use Rattle.rows.proofs.Laws.{length-rows, row_read, rows_step, rows-done}
 
--- a walk with fuel left has a step, and one without has none
-pub fuelled : {A : Type 0} (f : ℕ → A) (g : ℕ → A) → ((n : ℕ) → f (suc n) ≡ g n) → (left : ℕ) → 0 < left → f left ≡ g (left - 1)
-fuelled f g step zero p = absurd (lt_irrefl _ p)
-fuelled f g step (suc n) p = rw sub-one (step n)
+-- a walk with a step left takes it, and has the rest left
+pub fuelled : {A : Type 0} (f : ℕ → A) (g : ℕ → A) → ((n : ℕ) → f (suc n) ≡ g n) → (left rest : ℕ) → left ≡ rest + 1 → f left ≡ g rest
+fuelled f g step left rest p = ap f (p ∙ add-one rest) ∙ step rest
 
 -- ---- along the live chunks: c, the number of its next, and that one's row
 module _ (z : Sizes) (cs : List Chunk) (c d : ChunkNo) (next : d ≡ (chunk_at cs c).next) where
@@ -43,26 +44,26 @@ module _ (z : Sizes) (cs : List Chunk) (c d : ChunkNo) (next : d ≡ (chunk_at c
   locate-above k zero h x q m = refl
   locate-above k (suc n) h x q m = rw (← next, ← q, lt-ltb _ _ h, lt-leb _ _ m)
 
-  pub locate-next : (k left : ℕ) → 0 < left → d.0 < z.chunks → (x : Chunk) → x ≡ chunk_at cs d → x.min ≤ k → locate_from z cs left c k ≡ locate_from z cs (left - 1) d k
+  pub locate-next : (k left rest : ℕ) → left ≡ rest + 1 → d.0 < z.chunks → (x : Chunk) → x ≡ chunk_at cs d → x.min ≤ k → locate_from z cs left c k ≡ locate_from z cs rest d k
   unfolding locate_from
-  locate-next k left p h x q m = fuelled (λ n. locate_from z cs n c k) (λ n. locate_from z cs n d k) (λ n. rw (← next, ← q, lt-ltb _ _ h, le-leb _ _ m)) left p
+  locate-next k left rest p h x q m = fuelled (λ n. locate_from z cs n c k) (λ n. locate_from z cs n d k) (λ n. rw (← next, ← q, lt-ltb _ _ h, le-leb _ _ m)) left rest p
 
   pub before-spent : (x : ChunkNo) (left : ℕ) → left ≤ 0 → before_from z cs left c x ≡ no_chunk
   unfolding before_from
   before-spent x left h = rw (le_antisymm h zero-le)
 
-  pub before_here : (x : ChunkNo) (left : ℕ) → 0 < left → d.0 ≡ x.0 → before_from z cs left c x ≡ c
+  pub before_here : (x : ChunkNo) (left : ℕ) → 0 < left → eqb d.0 x.0 ≡ true → before_from z cs left c x ≡ c
   unfolding before_from
-  before_here x left p h = fuelled (λ n. before_from z cs n c x) (λ n. c) (λ n. rw (← next, eq-eqb _ _ h)) left p
+  before_here x left p h = fuelled (λ n. before_from z cs n c x) (λ n. c) (λ n. rw (← next, h)) left (left - 1) (omega (arith, p))
 
-  pub before-out : (x : ChunkNo) (left : ℕ) → (d.0 ≡ x.0 → ⊥) → z.chunks ≤ d.0 → before_from z cs left c x ≡ no_chunk
+  pub before-out : (x : ChunkNo) (left : ℕ) → eqb d.0 x.0 ≡ false → z.chunks ≤ d.0 → before_from z cs left c x ≡ no_chunk
   unfolding before_from
   before-out x zero h m = refl
-  before-out x (suc n) h m = rw (← next, ne_eqb _ _ h, le-ltb _ _ m)
+  before-out x (suc n) h m = rw (← next, h, le-ltb _ _ m)
 
-  pub before-next : (x : ChunkNo) (left : ℕ) → 0 < left → (d.0 ≡ x.0 → ⊥) → d.0 < z.chunks → before_from z cs left c x ≡ before_from z cs (left - 1) d x
+  pub before-next : (x : ChunkNo) (left rest : ℕ) → left ≡ rest + 1 → eqb d.0 x.0 ≡ false → d.0 < z.chunks → before_from z cs left c x ≡ before_from z cs rest d x
   unfolding before_from
-  before-next x left p h m = fuelled (λ n. before_from z cs n c x) (λ n. before_from z cs n d x) (λ n. rw (← next, ne_eqb _ _ h, lt-ltb _ _ m)) left p
+  before-next x left rest p h m = fuelled (λ n. before_from z cs n c x) (λ n. before_from z cs n d x) (λ n. rw (← next, h, lt-ltb _ _ m)) left rest p
 
 -- ---- along a chunk's list: entry e
 module _ (z : Sizes) (es : List Entry) (c : ChunkNo) (e : EntryNo) where
@@ -77,11 +78,11 @@ module _ (z : Sizes) (es : List Entry) (c : ChunkNo) (e : EntryNo) where
 
   pub find-here : (k left : ℕ) → 0 < left → e.0 < z.entries → (x : Entry) → x ≡ entry_at z es c e → x.key ≡ k → find_from z es c left e k ≡ e
   unfolding find_from
-  find-here k left p h x q m = fuelled (λ n. find_from z es c n e k) (λ n. e) (λ n. rw (lt-ltb _ _ h, eq-eqb _ _ (ap (λ (x : Entry). x.key) (sym q) ∙ m))) left p
+  find-here k left p h x q m = fuelled (λ n. find_from z es c n e k) (λ n. e) (λ n. rw (lt-ltb _ _ h, eq-eqb _ _ (ap (λ (x : Entry). x.key) (sym q) ∙ m))) left (left - 1) (omega (arith, p))
 
-  pub find-next : (k left : ℕ) → 0 < left → e.0 < z.entries → (x : Entry) → x ≡ entry_at z es c e → (x.key ≡ k → ⊥) → find_from z es c left e k ≡ find_from z es c (left - 1) x.next k
+  pub find-next : (k left rest : ℕ) → left ≡ rest + 1 → e.0 < z.entries → (x : Entry) → x ≡ entry_at z es c e → (x.key ≡ k → ⊥) → find_from z es c left e k ≡ find_from z es c rest x.next k
   unfolding find_from
-  find-next k left p h x q m = fuelled (λ n. find_from z es c n e k) (λ n. find_from z es c n x.next k) (λ n. rw (lt-ltb _ _ h, ne_eqb _ _ (λ e. m (ap (λ (x : Entry). x.key) q ∙ e)), q)) left p
+  find-next k left rest p h x q m = fuelled (λ n. find_from z es c n e k) (λ n. find_from z es c n x.next k) (λ n. rw (lt-ltb _ _ h, ne_eqb _ _ (λ e. m (ap (λ (x : Entry). x.key) q ∙ e)), q)) left rest p
 
   pub place-spent : (below : EntryNo) (k left : ℕ) → left ≤ 0 → place_from z es c left below e k ≡ below
   unfolding place_from
@@ -97,9 +98,9 @@ module _ (z : Sizes) (es : List Entry) (c : ChunkNo) (e : EntryNo) where
   place_here below k zero h x q m = refl
   place_here below k (suc n) h x q m = rw (lt-ltb _ _ h, ← q, le-ltb _ _ m)
 
-  pub place-next : (below : EntryNo) (k left : ℕ) → 0 < left → e.0 < z.entries → (x : Entry) → x ≡ entry_at z es c e → x.key < k → place_from z es c left below e k ≡ place_from z es c (left - 1) e x.next k
+  pub place-next : (below : EntryNo) (k left rest : ℕ) → left ≡ rest + 1 → e.0 < z.entries → (x : Entry) → x ≡ entry_at z es c e → x.key < k → place_from z es c left below e k ≡ place_from z es c rest e x.next k
   unfolding place_from
-  place-next below k left p h x q m = fuelled (λ n. place_from z es c n below e k) (λ n. place_from z es c n e x.next k) (λ n. rw (lt-ltb _ _ h, ← q, lt-ltb _ _ m)) left p
+  place-next below k left rest p h x q m = fuelled (λ n. place_from z es c n below e k) (λ n. place_from z es c n e x.next k) (λ n. rw (lt-ltb _ _ h, ← q, lt-ltb _ _ m)) left rest p
 
 -- an entry of a chunk past the table
 pub row-above : (m n c e : ℕ) → m ≤ c → m * n ≤ c * n + e
@@ -116,9 +117,9 @@ module _ (z : Sizes) (es : List Entry) (c : ChunkNo) (from to : ℕ) (e : EntryN
   within-out zero h = refl
   within-out (suc n) h = rw (le-ltb _ _ h)
 
-  pub within-next : (left : ℕ) → 0 < left → e.0 < z.entries → (x : Entry) → x ≡ entry_at z es c e → (b : Bool) → b ≡ lies from to x.key → within_from z es c from to left e ≡ pick b (e ∷ within_from z es c from to (left - 1) x.next) (within_from z es c from to (left - 1) x.next)
+  pub within-next : (left rest : ℕ) → left ≡ rest + 1 → e.0 < z.entries → (x : Entry) → x ≡ entry_at z es c e → (b : Bool) → b ≡ lies from to x.key → within_from z es c from to left e ≡ pick b (e ∷ within_from z es c from to rest x.next) (within_from z es c from to rest x.next)
   unfolding within_from
-  within-next left p h x q b t = fuelled (λ n. within_from z es c from to n e) (λ n. pick b (e ∷ within_from z es c from to n x.next) (within_from z es c from to n x.next)) (λ n. rw (lt-ltb _ _ h, ← q, ← t)) left p
+  within-next left rest p h x q b t = fuelled (λ n. within_from z es c from to n e) (λ n. pick b (e ∷ within_from z es c from to n x.next) (within_from z es c from to n x.next)) (λ n. rw (lt-ltb _ _ h, ← q, ← t)) left rest p
 
 -- ---- up a stack
 module _ (z : Sizes) (ws : List ℕ) (n : ℕ) (task : n < z.tasks) where
@@ -171,18 +172,31 @@ pub record Some {A : Type 0} (some : List A → Bool) (test : A → Bool) : Type
   pub nil : some [] ≡ false
   pub cons : (x : A) (l : List A) → some (x ∷ l) ≡ pick (test x) true (some l)
 
-module _ {A : Type 0} {some : List A → Bool} {test : A → Bool} (law : Some some test) (f : ℕ → A) (n i : ℕ) where
-  pub some-done : n ≤ i → some (rows_from f i (n - i)) ≡ false
-  some-done h = rw (rows-done f n i h) law.nil
+module _ {A : Type 0} {some : List A → Bool} {test : A → Bool} (law : Some some test) (f : ℕ → A) where
+  some_from : (a m i : ℕ) → a ≤ i → i < a + m → test (f i) ≡ true → some (rows_from f a m) ≡ true
+  unfolding rows_from
+  some_from a zero i h l t = absurd (omega arith)
+  some_from a (suc m) i h l t = law.cons (f a) (rows_from f (a + 1) m) ∙ go (test (f a)) refl (λ g. some_from (a + 1) m i g (omega arith) t)
+    where
+      go : (b : Bool) → test (f a) ≡ b → (a + 1 ≤ i → some (rows_from f (a + 1) m) ≡ true) → pick b true (some (rows_from f (a + 1) m)) ≡ true
+      go true q on = refl
+      go false q on =
+          let other : a ≢ i = λ e. true≢false (sym t ∙ ap (λ k. test (f k)) (sym e) ∙ q) in
+          on (omega arith)
 
-  pub some-here : i < n → (x : A) → x ≡ f i → test x ≡ true → some (rows_from f i (n - i)) ≡ true
-  some-here h x q t = rw (rows_step f n i h, law.cons, ← q, t)
+  none_from : (a m : ℕ) → ((i : ℕ) → a ≤ i → i < a + m → test (f i) ≡ false) → some (rows_from f a m) ≡ false
+  unfolding rows_from
+  none_from a zero q = law.nil
+  none_from a (suc m) q = rw (law.cons, q a (omega arith) (omega arith)) (none_from (a + 1) m (λ i h l. q i (omega arith) (omega arith)))
 
-  pub some_next : i < n → (x : A) → x ≡ f i → test x ≡ false → some (rows_from f i (n - i)) ≡ some (rows_from f (i + 1) (n - (i + 1)))
-  some_next h x q t = rw (rows_step f n i h, law.cons, ← q, t)
+  -- a search through the first n rows has told whether one passes; of a range it knows the numbers at which a list is read, so one is read at each
+  module _ (n : ℕ) where
+    pub some-told : (r : Bool) → (r ≡ true → (i : ℕ) × (i < n) × (test (f i) ≡ true)) → (r ≡ false → (i : ℕ) → i < n → (w : List ℕ) → get_or w i 0 ≡ 0 → test (f i) ≡ false) → r ≡ some (rows_from f 0 n)
+    some-told true one none = let w = one refl in sym (some_from 0 n w.0 (omega arith) (omega (arith, w.1)) w.2)
+    some-told false one none = sym (none_from 0 n (λ i h l. none refl i (omega arith) [] refl))
 
-pub published-some : (c : ChunkNo) → Some (λ l. published_on l c) (λ t. eqb t.published 1 and eqb t.chunk.0 c.0)
-unfolding published_on
+pub published-some : (c : ChunkNo) → Some (λ l. published_on l c) (publishes_on c)
+unfolding published_on publishes_on
 published-some c = record { nil = refl; cons = λ x l. refl }
 
 pub held-chunk-some : (c : ChunkNo) → Some (λ l. held_chunk l c) (λ t. eqb t.chunk.0 c.0)
@@ -202,15 +216,3 @@ module _ (f : ℕ → Chunk) (n i : ℕ) where
   pub unused-next : i < n → (x : Chunk) → x ≡ f i → (x.status ≡ unused → ⊥) → unused_from (rows_from f i (n - i)) i ≡ unused_from (rows_from f (i + 1) (n - (i + 1))) (i + 1)
   unfolding unused_from
   unused-next h x q t = rw (rows_step f n i h, ← q, ne_eqb _ _ t)
-
-  pub count-done : n ≤ i → unused_count (rows_from f i (n - i)) ≡ 0
-  unfolding unused_count
-  count-done h = rw (rows-done f n i h)
-
-  pub count-here : i < n → (x : Chunk) → x ≡ f i → x.status ≡ unused → unused_count (rows_from f i (n - i)) ≡ unused_count (rows_from f (i + 1) (n - (i + 1))) + 1
-  unfolding unused_count
-  count-here h x q t = rw (rows_step f n i h, ← q, eq-eqb _ _ t)
-
-  pub count_next : i < n → (x : Chunk) → x ≡ f i → (x.status ≡ unused → ⊥) → unused_count (rows_from f i (n - i)) ≡ unused_count (rows_from f (i + 1) (n - (i + 1)))
-  unfolding unused_count
-  count_next h x q t = rw (rows_step f n i h, ← q, ne_eqb _ _ t)

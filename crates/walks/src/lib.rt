@@ -1,14 +1,15 @@
 // The walks: along the live chunks, along a chunk's list, up a stack, and through the rows of a table.
 #![tactic(auto)]
 
-ghost use Rattle.std.specs.Prelude.{◌≡◌, Bool, ℕ, ◌+◌, ◌*◌, ◌<◌, ◌≤◌, [], length, drop, get_or};
+ghost use Rattle.std.specs.Prelude.{◌≡◌, IfSome, Bool, ℕ, ◌+◌, ◌*◌, ◌<◌, ◌≤◌, [], length, drop, get_or};
 ghost use Rattle.rules.specs.Words.{no_entry};
 ghost use Rattle.rules.specs.Tables.{entry_at};
 ghost use Rattle.rules.specs.Walks.{locate_from, before_from, find_from, place_from, depth};
-ghost use Rattle.rules.specs.Rebalance.{unused_count, unused_from, published_on, held_chunk};
+ghost use Rattle.rules.specs.Rebalance.{unused_from, published_on, held_chunk};
+ghost use Rattle.walks.specs.Found.{numbered, Found, FoundChunk, publishes_on};
 ghost use Rattle.rows.specs.Rows.{task_rows, chunk_rows, entry_rows, stack_rows};
 
-use rules::{Chunk, ChunkNo, Entry, EntryNo, NONE, Sizes, Task};
+use rules::{Chunk, ChunkNo, Entry, EntryNo, Sizes, Task};
 
 // ---- along the live chunks
 
@@ -19,8 +20,7 @@ pub fn locate(z: Sizes, chunks: &[u64], first: ChunkNo, k: u64) -> ChunkNo
 {
     let mut at = first;
     let mut next = rows::chunk_at(z, chunks, first).next;
-    let mut left = z.chunks;
-    while 0 < left {
+    for _ in 0..z.chunks {
         if z.chunks <= next.0 as usize {
             return at;
         }
@@ -30,64 +30,58 @@ pub fn locate(z: Sizes, chunks: &[u64], first: ChunkNo, k: u64) -> ChunkNo
         }
         at = next;
         next = x.next;
-        left -= 1;
     }
     at
 }
 
 // The chunk from the first on whose next is the given one, or none.
-pub fn before(z: Sizes, chunks: &[u64], first: ChunkNo, x: ChunkNo) -> ChunkNo
+pub fn before(z: Sizes, chunks: &[u64], first: ChunkNo, x: ChunkNo) -> Option<ChunkNo>
     requires { length chunks.now ≡ z.chunks * 6 }
-    ensures { result ≡ before_from z (chunk_rows z.chunks chunks.now) z.chunks first x }
+    ensures { (numbered result ≡ before_from z (chunk_rows z.chunks chunks.now) z.chunks first x) × (first.0 < z.chunks → IfSome result (λ c. c.0 < z.chunks)) }
 {
     let mut at = first;
-    let mut left = z.chunks;
-    while 0 < left {
+    for _ in 0..z.chunks {
         let next = rows::chunk_at(z, chunks, at).next;
-        if next.0 == x.0 {
-            return at;
+        if next == x {
+            return Some(at);
         }
         if z.chunks <= next.0 as usize {
-            return ChunkNo(NONE);
+            return None;
         }
         at = next;
-        left -= 1;
     }
-    ChunkNo(NONE)
+    None
 }
 
 // ---- along a chunk's list
 
-// The linked entry with the key, from the head on, or none.
-pub fn find(z: Sizes, entries: &[u64], c: ChunkNo, head: EntryNo, k: u64) -> EntryNo
+// The linked entry with the key, from the head on.
+pub fn find(z: Sizes, entries: &[u64], c: ChunkNo, head: EntryNo, k: u64) -> Option<EntryNo>
     requires { (c.0 < z.chunks) × (length entries.now ≡ z.chunks * z.entries * 3) }
-    ensures { result ≡ find_from z (entry_rows (z.chunks * z.entries) entries.now) c z.entries head k }
+    ensures { Found z result (find_from z (entry_rows (z.chunks * z.entries) entries.now) c z.entries head k) }
 {
     let mut at = head;
-    let mut left = z.entries;
-    while 0 < left {
+    for _ in 0..z.entries {
         if z.entries <= at.0 as usize {
-            return EntryNo(NONE);
+            return None;
         }
         let x = rows::entry_at(z, entries, c, at);
         if x.key == k {
-            return at;
+            return Some(at);
         }
         at = x.next;
-        left -= 1;
     }
-    EntryNo(NONE)
+    None
 }
 
-// The last linked entry from the head on with a key below the given one, or none.
-pub fn place(z: Sizes, entries: &[u64], c: ChunkNo, head: EntryNo, k: u64) -> EntryNo
+// The last linked entry from the head on with a key below the given one.
+pub fn place(z: Sizes, entries: &[u64], c: ChunkNo, head: EntryNo, k: u64) -> Option<EntryNo>
     requires { (c.0 < z.chunks) × (length entries.now ≡ z.chunks * z.entries * 3) }
-    ensures { result ≡ place_from z (entry_rows (z.chunks * z.entries) entries.now) c z.entries no_entry head k }
+    ensures { Found z result (place_from z (entry_rows (z.chunks * z.entries) entries.now) c z.entries no_entry head k) }
 {
-    let mut below = EntryNo(NONE);
+    let mut below = None;
     let mut at = head;
-    let mut left = z.entries;
-    while 0 < left {
+    for _ in 0..z.entries {
         if z.entries <= at.0 as usize {
             return below;
         }
@@ -95,9 +89,8 @@ pub fn place(z: Sizes, entries: &[u64], c: ChunkNo, head: EntryNo, k: u64) -> En
         if k <= x.key {
             return below;
         }
-        below = at;
+        below = Some(at);
         at = x.next;
-        left -= 1;
     }
     below
 }
@@ -122,35 +115,31 @@ pub fn stack_depth(z: Sizes, tasks: &[u64], n: usize) -> usize
     requires { (n < z.tasks) × (length tasks.now ≡ z.tasks * 11 + z.tasks * z.entries) }
     ensures { (result ≡ depth z (get_or (stack_rows z tasks.now) n [])) × (result ≤ z.entries) }
 {
-    let mut i = 0;
-    while i < z.entries {
+    for i in 0..z.entries {
         let e = rows::stack_at(z, tasks, n, i);
         if z.entries <= e.0 as usize {
             return i;
         }
-        i += 1;
     }
-    i
+    z.entries
 }
 
 // ---- what the rebalance looks for
+
+// The task is published, and holds the chunk.
+#[tactic(auto, unfolding(crate::specs::Found::publishes_on))]
+fn publishes_on(t: Task, c: ChunkNo) -> bool
+    ensures { result ≡ publishes_on c t }
+{
+    t.published == 1 && t.chunk == c
+}
 
 // A task of the first `n` rows is published on the chunk.
 pub fn published_on(n: usize, tasks: &[u64], c: ChunkNo) -> bool
     requires { n * 11 ≤ length tasks.now }
     ensures { result ≡ published_on (task_rows n tasks.now) c }
 {
-    let mut i = 0;
-    while i < n {
-        let t = rows::task_row(tasks, i);
-        if t.published == 1 {
-            if t.chunk.0 == c.0 {
-                return true;
-            }
-        }
-        i += 1;
-    }
-    false
+    (0..n).any(|i| publishes_on(rows::task_row(tasks, i), c))
 }
 
 // A task of the first `n` rows holds the chunk.
@@ -158,46 +147,18 @@ pub fn held_chunk(n: usize, tasks: &[u64], c: ChunkNo) -> bool
     requires { n * 11 ≤ length tasks.now }
     ensures { result ≡ held_chunk (task_rows n tasks.now) c }
 {
-    let mut i = 0;
-    while i < n {
-        let t = rows::task_row(tasks, i);
-        if t.chunk.0 == c.0 {
-            return true;
-        }
-        i += 1;
-    }
-    false
-}
-
-// How many of the first `n` chunks are unused.
-pub fn unused_count(n: usize, chunks: &[u64]) -> usize
-    requires { n * 6 ≤ length chunks.now }
-    ensures { (result ≡ unused_count (chunk_rows n chunks.now)) × (result ≤ n) }
-{
-    let mut count: usize = 0;
-    let mut i = 0;
-    while i < n {
-        let x = rows::chunk_row(chunks, i);
-        if x.status == 0 {
-            count += 1;
-        }
-        i += 1;
-    }
-    count
+    (0..n).any(|i| rows::task_row(tasks, i).chunk == c)
 }
 
 // The first unused chunk from the given one on, of `n`, or none.
-pub fn unused_from(n: usize, chunks: &[u64], from: usize) -> ChunkNo
+pub fn unused_from(n: usize, chunks: &[u64], from: usize) -> Option<ChunkNo>
     requires { (n * 6 ≤ length chunks.now) × (from ≤ n) }
-    ensures { result ≡ unused_from (drop from (chunk_rows n chunks.now)) from }
+    ensures { FoundChunk n result (unused_from (drop from (chunk_rows n chunks.now)) from) }
 {
-    let mut i = from;
-    while i < n {
-        let x = rows::chunk_row(chunks, i);
-        if x.status == 0 {
-            return ChunkNo(i as u64);
+    for i in from..n {
+        if rows::chunk_row(chunks, i).status == Chunk::UNUSED {
+            return Some(ChunkNo(i as u64));
         }
-        i += 1;
     }
-    ChunkNo(NONE)
+    None
 }

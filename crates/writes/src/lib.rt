@@ -4,42 +4,11 @@
 ghost use Rattle.std.specs.Prelude.{◌≡◌, List, ℕ};
 ghost use Rattle.rules.specs.declared.Sizes.{Sizes};
 ghost use Rattle.rules.specs.declared.Write.TheVariants as write;
-ghost use Rattle.rules.specs.Stages.{with_next, with_handle, with_head, apply};
+ghost use Rattle.rules.specs.Stages.{apply};
 ghost use Rattle.rows.specs.Rows.{Numbers, tables};
 ghost use Rattle.writes.specs.Placed.{Ready};
 
-use rules::{Chunk, ChunkNo, Entry, EntryNo, HandleNo, NONE, Sizes, Write};
-
-// ---- a row, written anew
-
-// The entry, with another after it.
-fn with_next(x: Entry, e: EntryNo) -> Entry
-    ensures { result ≡ with_next x e }
-{
-    let mut row = x;
-    row.next = e;
-    row
-}
-
-// The entry, naming the handle.
-fn with_handle(x: Entry, h: HandleNo) -> Entry
-    ensures { result ≡ with_handle x h }
-{
-    let mut row = x;
-    row.handle = h;
-    row
-}
-
-// The chunk, its list from the entry on.
-fn with_head(x: Chunk, e: EntryNo) -> Chunk
-    ensures { result ≡ with_head x e }
-{
-    let mut row = x;
-    row.head = e;
-    row
-}
-
-// ---- the writes
+use rules::{Chunk, ChunkNo, Entry, EntryNo, HandleNo, Sizes, Write};
 
 // The chunk's next slot is used, for the key.
 fn slot(z: Sizes, chunks: &mut [u64], entries: &mut [u64], c: ChunkNo, k: u64)
@@ -47,34 +16,38 @@ fn slot(z: Sizes, chunks: &mut [u64], entries: &mut [u64], c: ChunkNo, k: u64)
     ensures { (d ts vs ms : List ℕ) → tables z d ts chunks.new entries.new vs ms ≡ apply z (tables z d ts chunks.old entries.old vs ms) (write.Slot c k) }
 {
     let x = rows::chunk_at(z, chunks, c);
-    let used = x.used;
-    let mut row = x;
-    row.used = used + 1;
-    rows::put_chunk(z, chunks, c, row);
+    let taken = Chunk {
+        used: x.used + 1,
+        ..x
+    };
+    rows::put_chunk(z, chunks, c, taken);
     let empty = Entry {
         key: k,
-        handle: HandleNo(NONE),
-        next: EntryNo(NONE),
+        ..rows::empty_entry()
     };
-    rows::put_entry(z, entries, c, EntryNo(used), empty);
+    rows::put_entry(z, entries, c, EntryNo(x.used), empty);
 }
 
 // The entry is linked into the chunk's list, after the given one or, after none, at its head.
+// `below` is a number, as the definition `apply` (crates/rules/specs) has it in the write.
 fn link(z: Sizes, chunks: &mut [u64], entries: &mut [u64], c: ChunkNo, e: EntryNo, below: EntryNo)
     requires { Ready z chunks.old entries.old (write.Link c e below) }
     ensures { (d ts vs ms : List ℕ) → tables z d ts chunks.new entries.new vs ms ≡ apply z (tables z d ts chunks.old entries.old vs ms) (write.Link c e below) }
 {
     let x = rows::entry_at(z, entries, c, e);
-    let i = below.0 as usize;
-    if i < z.entries {
+    if (below.0 as usize) < z.entries {
         let y = rows::entry_at(z, entries, c, below);
-        rows::put_entry(z, entries, c, e, with_next(x, y.next));
-        rows::put_entry(z, entries, c, below, with_next(y, e));
-        return;
+        rows::put_entry(z, entries, c, e, Entry { next: y.next, ..x });
+        rows::put_entry(z, entries, c, below, Entry { next: e, ..y });
+    } else {
+        let row = rows::chunk_at(z, chunks, c);
+        let first = Entry {
+            next: row.head,
+            ..x
+        };
+        rows::put_entry(z, entries, c, e, first);
+        rows::put_chunk(z, chunks, c, Chunk { head: e, ..row });
     }
-    let row = rows::chunk_at(z, chunks, c);
-    rows::put_entry(z, entries, c, e, with_next(x, row.head));
-    rows::put_chunk(z, chunks, c, with_head(row, e));
 }
 
 // The entry names the handle, or none.
@@ -83,7 +56,7 @@ fn name(z: Sizes, entries: &mut [u64], c: ChunkNo, e: EntryNo, h: HandleNo)
     ensures { (d ts cs vs ms : List ℕ) → tables z d ts cs entries.new vs ms ≡ apply z (tables z d ts cs entries.old vs ms) (write.Name c e h) }
 {
     let x = rows::entry_at(z, entries, c, e);
-    rows::put_entry(z, entries, c, e, with_handle(x, h));
+    rows::put_entry(z, entries, c, e, Entry { handle: h, ..x });
 }
 
 // The handle's record is value 0, undeleted.

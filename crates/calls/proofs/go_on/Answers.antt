@@ -1,24 +1,21 @@
-use mathlib.Core.Path.{refl, sym, ap, ◌∙◌}
-use Rattle.rules.specs.Calls.{does}
-use Rattle.rules.specs.Calls.{Call}
+use Rattle.std.proofs.Common.{rules}
+use mathlib.Core.Path.{refl}
+use Rattle.rules.specs.Calls.{Call, does}
+use Rattle.calls.proofs.Laws.{ready-words, refused, done}
 use Rattle.rebalance.proofs.Readied.{shape-ready}
-use Rattle.rules.proofs.Tests.{and_left, and_right}
-use Rattle.rules.specs.Shape.{shape}
-use Rattle.rules.specs.Rebalance.{Outcome}
-use Rattle.calls.specs.Promise.{lending, tables_of, lent}
-use Rattle.calls.proofs.Laws.{refused, done, still-lent}
+use Rattle.rows.specs.Seen.{seen}
+use Rattle.rows.specs.Rows.{directory_of, chunk_rows}
+use Rattle.rebalance.specs.Ready.{Ready}
 use Rattle.calls.proofs.go_on.Goals as goal
 
-pub returns-then-not-is_ready : goal.returns-then-not-is_ready
-returns-then-not-is_ready c = let the-args = c.args in let the-is-ready = c.is_ready in refused the-args.z (Call.rebalance) (lending the-args.directory.now the-args.tasks.now the-args.chunks.now the-args.entries.now the-args.values.now the-args.marks.now) (sym the-is-ready.ensures ∙ c.if-not-is_ready.true)
+pub returns-in_err-ready : goal.returns-in_err-ready
+returns-in_err-ready c = refused c.args.z Call.rebalance _ c.in_err-ready.field-0.0 c.in_err-ready.ensures c.from_residual.result (search rules)
 
 pub rebalance-requires-clause-ready : goal.rebalance-requires-clause-ready
 rebalance-requires-clause-ready c =
-    let a = c.args in
-    let lends = lending a.directory.now a.tasks.now a.chunks.now a.entries.now a.values.now a.marks.now in
-    let s = tables_of a.z lends in
-    shape-ready a.z s (and_right (lent a.z lends) (shape a.z s) (sym c.is_ready.ensures ∙ c.if-not-is_ready.false))
+    let s = c.in_ok-ready.field-0 in
+    ready-words c.args.z _ s c.in_ok-ready.ensures (λ z w. Ready z (directory_of w.directory) (chunk_rows z.chunks w.chunks)) (shape-ready s.lent.z (seen s.lent) s.shaped)
 
 pub returns : goal.returns
 unfolding does
-returns c = let the-args = c.args in let the-if1 = c.if-not-is_ready in let the-is-ready = c.is_ready in let the-rebalance = c.rebalance in done the-args.z (Call.rebalance) (lending the-args.directory.now the-args.tasks.now the-args.chunks.now the-args.entries.now the-args.values.now the-args.marks.now) (lending the-rebalance.new.directory the-args.tasks.now the-rebalance.new.chunks the-rebalance.new.entries the-args.values.now the-args.marks.now) the-rebalance.result (sym the-is-ready.ensures ∙ the-if1.false) (ap (λ (o : Outcome). o.report) (the-rebalance.ensures the-args.values.now the-args.marks.now)) (ap (λ (o : Outcome). o.tables) (the-rebalance.ensures the-args.values.now the-args.marks.now)) (still-lent the-args.z (lending the-args.directory.now the-args.tasks.now the-args.chunks.now the-args.entries.now the-args.values.now the-args.marks.now) (lending the-rebalance.new.directory the-args.tasks.now the-rebalance.new.chunks the-rebalance.new.entries the-args.values.now the-args.marks.now) (and_left (lent the-args.z (lending the-args.directory.now the-args.tasks.now the-args.chunks.now the-args.entries.now the-args.values.now the-args.marks.now)) (shape the-args.z (tables_of the-args.z (lending the-args.directory.now the-args.tasks.now the-args.chunks.now the-args.entries.now the-args.values.now the-args.marks.now))) (sym the-is-ready.ensures ∙ the-if1.false)) (record { directory = the-rebalance.auto.directory; tasks = refl; chunks = the-rebalance.auto.chunks; entries = the-rebalance.auto.entries; values = refl; marks = refl }))
+returns c = let a = c.args in done a.z Call.rebalance _ c.in_ok-ready.field-0 c.in_ok-ready.ensures _ _ (c.rebalance.ensures a.values.now a.marks.now) (record { directory = c.rebalance.auto.directory; tasks = refl; chunks = c.rebalance.auto.chunks; entries = c.rebalance.auto.entries; values = refl; marks = refl })

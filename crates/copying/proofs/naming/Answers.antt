@@ -1,14 +1,16 @@
-use mathlib.Core.Path.{sym, ◌∙◌}
+use mathlib.Core.Path.{refl, ◌∙◌}
 use native.Mathlib.Omega.{arith}
-use native.Mathlib.Nat.{lt_irrefl}
-use Rattle.copying.proofs.Laws.{naming-spent, naming-out, naming-past}
+use Rattle.copying.proofs.Laws.{naming-spent, naming-out, naming-here, naming-past}
 use Rattle.copying.proofs.naming.Goals as goal
 
 pub returns-then-z-at : goal.returns-then-z-at
-returns-then-z-at c = record { same = c.loop-left.invariant.0 ∙ naming-out _ _ _ _ _ c.if-z-at.true ∙ sym (naming-spent _ _ _ _ _ (omega arith)); fewer = omega arith; entry = (λ h. absurd (lt_irrefl _ h)); handle = (λ h. absurd (lt_irrefl _ h)) }
+returns-then-z-at c = c.loop-left.invariant ∙ naming-out _ _ _ _ _ c.if-z-at.true
+
+pub returns-then-x-z : goal.returns-then-x-z
+returns-then-x-z c = (c.loop-left.invariant ∙ naming-here _ _ _ _ _ _ (omega arith) (omega arith) _ c.entry_at-x.ensures c.if-x-z.true, omega arith, refl)
 
 pub loop-left-preserved : goal.loop-left-preserved
-loop-left-preserved c = (c.loop-left.invariant.0 ∙ naming-past _ _ _ _ _ (omega arith) (omega arith) _ c.entry_at-x.ensures c.if-x-z.false, omega arith)
+loop-left-preserved c = c.loop-left.invariant ∙ naming-past _ _ _ _ _ _ (omega arith) (omega arith) _ c.entry_at-x.ensures c.if-x-z.false
 
 pub returns : goal.returns
-returns c = record { same = c.loop-left.invariant.0 ∙ naming-spent _ _ _ _ _ c.loop-left-test.false ∙ sym (naming-spent _ _ _ _ _ (omega arith)); fewer = omega arith; entry = (λ h. absurd (lt_irrefl _ h)); handle = (λ h. absurd (lt_irrefl _ h)) }
+returns c = c.loop-left.invariant ∙ naming-spent _ _ _ _ _ (omega arith)

@@ -1,4 +1,3 @@
-use Prim.Native.Nat.{◌-◌, ◌≤◌}
 use mathlib.Core.Path.{◌≡◌}
 use Rattle.rules.specs.Shape.{rows_ascend}
 use Rattle.rows.specs.Rows.{chunk_rows, index_of, index_rows}
@@ -7,7 +6,4 @@ use Rattle.indexed.proofs.Laws.{asked}
 use Rattle.indexed.proofs.rows_ascend.Given as goal
 
 abbrev pub invariant-loop-i : goal.invariant-loop-i
-invariant-loop-i l = (rows_ascend l.z (chunk_rows l.z.chunks l.chunks) l.many 0 (index_rows l.z.chunks l.directory) ≡ asked l.z (chunk_rows l.z.chunks l.chunks) (index_of l.directory) l.z.chunks l.many l.i (least l.start l.last)) × (l.i ≤ l.many)
-
-abbrev pub decreases-loop-i : goal.decreases-loop-i
-decreases-loop-i l = l.many - l.i
+invariant-loop-i l = rows_ascend l.z (chunk_rows l.z.chunks l.chunks) l.many 0 (index_rows l.z.chunks l.directory) ≡ asked l.z (chunk_rows l.z.chunks l.chunks) (index_of l.directory) l.z.chunks l.many l.i (least l.last)

@@ -1,17 +1,19 @@
 use Prim.Native.Nat.{ℕ}
-use mathlib.Core.Path.{sym, ◌∙◌}
-use mathlib.Core.Bool.{Bool}
+use Rattle.std.proofs.Common.{rules}
+use mathlib.Core.Path.{refl, ◌∙◌}
+use mathlib.Core.Bool.{Bool, true, ◌&&◌}
+use Rattle.std.proofs.lemmas.Iterator.{YieldsList-from_range}
+use Rattle.std.proofs.lemmas.Iterator.Consumers.{fold_from_yields_List}
 use Rattle.rules.specs.declared.IndexRow.{IndexRow}
 use Rattle.rules.specs.Shape.{is_empty_row}
 use Rattle.rows.specs.Rows.{index_of}
-use Rattle.listed.proofs.Rows.{each-gathers, each-gathered}
+use Rattle.listed.proofs.All.{fold-rows}
 use Rattle.indexed.proofs.rows_empty.Goals as goal
 
 abbrev empty : ℕ → IndexRow → Bool
 empty n x = is_empty_row x
 
-pub loop-i-preserved : goal.loop-i-preserved
-loop-i-preserved c = rw c.is_empty_row-ok.ensures (c.loop-i.invariant ∙ each-gathers empty (index_of c.args.directory.now) _ _ c.loop-i-test.true c.loop-i.ok _ c.index_row-x.ensures)
-
 pub returns : goal.returns
-returns c = sym (c.loop-i.invariant ∙ each-gathered empty _ _ _ c.loop-i-test.false _)
+returns c = let f = index_of c.args.directory.now in
+    fold_from_yields_List _ (λ (t : Bool) (i : ℕ). t && empty i (f i)) true _ c.fold.ensures.ran (YieldsList-from_range c.args.from c.args.z.chunks _ (cc) refl) (λ t i b q h. search rules)
+    ∙ fold-rows empty f c.args.from _

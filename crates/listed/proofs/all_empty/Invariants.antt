@@ -1,9 +1,6 @@
-use Prim.Native.Nat.{◌-◌, ◌≤◌}
+use Prim.Native.Nat.{◌+◌, ◌*◌}
 use Rattle.listed.specs.Plain.{AllEmpty}
 use Rattle.listed.proofs.all_empty.Given as goal
 
-abbrev pub invariant-loop-i : goal.invariant-loop-i
-invariant-loop-i l = (l.i ≤ l.to) × AllEmpty l.entries l.from l.i
-
-abbrev pub decreases-loop-i : goal.decreases-loop-i
-decreases-loop-i l = l.to - l.i
+abbrev pub invariant-loop-turn : goal.invariant-loop-turn
+invariant-loop-turn l = AllEmpty l.entries l.from (l.from + l.turn * 8)

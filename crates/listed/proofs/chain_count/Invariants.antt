@@ -1,12 +1,10 @@
-use Prim.Native.Nat.{◌+◌}
+use Prim.Native.Nat.{◌-◌}
 use mathlib.Core.Path.{◌≡◌}
 use Rattle.rules.specs.Shape.{chain_count}
-use Rattle.rows.specs.Rows.{chunk_rows}
+use Rattle.rows.specs.Seen.{seen}
 use Rattle.listed.specs.Parts.{least}
 use Rattle.listed.proofs.chain_count.Given as goal
 
-abbrev pub invariant-loop-left : goal.invariant-loop-left
-invariant-loop-left l = (chain_count l.z (chunk_rows l.z.chunks l.chunks) l.z.chunks l.initial.at 0 0 ≡ chain_count l.z (chunk_rows l.z.chunks l.chunks) l.left l.at (least l.start l.last) l.n) × (l.n + l.left ≡ l.z.chunks)
-
-abbrev pub decreases-loop-left : goal.decreases-loop-left
-decreases-loop-left l = l.left
+abbrev pub invariant-loop-n : goal.invariant-loop-n
+invariant-loop-n l = let s = l.s in
+    chain_count s.z (seen s).chunks s.z.chunks l.fn.first 0 0 ≡ chain_count s.z (seen s).chunks (s.z.chunks - l.n) l.at (least l.last) l.n

@@ -4,7 +4,7 @@ use Rattle.rebalance.proofs.Laws.{cleared-all, cleared-next}
 use Rattle.rebalance.proofs.clear.Goals as goal
 
 pub loop-n-preserved : goal.loop-n-preserved
-loop-n-preserved c = (c.loop-n.invariant.0 ∙ cleared-next _ _ _ _ (omega arith) _ c.empty_entry.ensures _ c.put_entry.ensures, omega arith, omega arith)
+loop-n-preserved c = c.loop-n.invariant ∙ cleared-next c.args.z _ _ _ c.args.c (omega arith) _ c.empty_entry.ensures _ c.put_entry.ensures
 
 pub returns : goal.returns
-returns c = sym (c.loop-n.invariant.0 ∙ cleared-all _ _ _ _ c.loop-n-test.false)
+returns c = sym (c.loop-n.invariant ∙ cleared-all _ _ _ _ (omega arith))

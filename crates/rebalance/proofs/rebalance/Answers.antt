@@ -1,23 +1,22 @@
 use mathlib.Core.Path.{◌∙◌}
 use Rattle.rows.specs.Rows.{tables}
-use Rattle.rebalance.proofs.Laws.{does-drain, does_copy, does-swap, does-index, does-release, does-nothing}
-use borrow.Author.Rules.{rules}
+use Rattle.rebalance.proofs.Laws.{does-one, does-none}
 use Rattle.rebalance.proofs.rebalance.Goals as goal
 
-pub returns-in-1 : goal.returns-in-1
-returns-in-1 c = let the-args = c.args in λ vs ms. c.drain.ensures the-args.chunks.now the-args.entries.now vs ms ∙ does-drain the-args.z (tables the-args.z the-args.directory.now the-args.tasks.now the-args.chunks.now the-args.entries.now vs ms) _ c.directory_row-stage.ensures c.in-1.is
+pub returns-in_err-try_from : goal.returns-in_err-try_from
+returns-in_err-try_from c vs ms = let a = c.args in does-none a.z (tables a.z a.directory.now a.tasks.now a.chunks.now a.entries.now vs ms) _ c.directory_row-d.ensures _ c.try_from.ensures _ c.in_err-try_from.was c.from_residual.result c.from_residual.ensures.1
 
-pub returns-in-2 : goal.returns-in-2
-returns-in-2 c = let the-args = c.args in λ vs ms. c.copy.ensures the-args.tasks.now vs ms ∙ does_copy the-args.z (tables the-args.z the-args.directory.now the-args.tasks.now the-args.chunks.now the-args.entries.now vs ms) _ c.directory_row-stage.ensures c.in-2.is
+pub returns-in-Drain : goal.returns-in-Drain
+returns-in-Drain c vs ms = let a = c.args in c.drain-report.ensures a.chunks.now a.entries.now vs ms ∙ does-one a.z (tables a.z a.directory.now a.tasks.now a.chunks.now a.entries.now vs ms) _ c.directory_row-d.ensures _ c.try_from.ensures _ _ c.in_ok-try_from.was c.in-Drain.is
 
-pub returns-in-3 : goal.returns-in-3
-returns-in-3 c = let the-args = c.args in λ vs ms. c.swap_in.ensures the-args.tasks.now the-args.entries.now vs ms ∙ does-swap the-args.z (tables the-args.z the-args.directory.now the-args.tasks.now the-args.chunks.now the-args.entries.now vs ms) _ c.directory_row-stage.ensures c.in-3.is
+pub returns-in-Copy : goal.returns-in-Copy
+returns-in-Copy c vs ms = let a = c.args in c.copy-report.ensures a.tasks.now vs ms ∙ does-one a.z (tables a.z a.directory.now a.tasks.now a.chunks.now a.entries.now vs ms) _ c.directory_row-d.ensures _ c.try_from.ensures _ _ c.in_ok-try_from.was c.in-Copy.is
 
-pub returns-in-4 : goal.returns-in-4
-returns-in-4 c = let the-args = c.args in λ vs ms. c.index.ensures the-args.tasks.now the-args.entries.now vs ms ∙ does-index the-args.z (tables the-args.z the-args.directory.now the-args.tasks.now the-args.chunks.now the-args.entries.now vs ms) _ c.directory_row-stage.ensures c.in-4.is
+pub returns-in-SwapIn : goal.returns-in-SwapIn
+returns-in-SwapIn c vs ms = let a = c.args in c.swap_in-report.ensures a.tasks.now a.entries.now vs ms ∙ does-one a.z (tables a.z a.directory.now a.tasks.now a.chunks.now a.entries.now vs ms) _ c.directory_row-d.ensures _ c.try_from.ensures _ _ c.in_ok-try_from.was c.in-SwapIn.is
 
-pub returns-in-5 : goal.returns-in-5
-returns-in-5 c = let the-args = c.args in λ vs ms. c.release.ensures vs ms ∙ does-release the-args.z (tables the-args.z the-args.directory.now the-args.tasks.now the-args.chunks.now the-args.entries.now vs ms) _ c.directory_row-stage.ensures c.in-5.is
+pub returns-in-Index : goal.returns-in-Index
+returns-in-Index c vs ms = let a = c.args in c.index-report.ensures a.tasks.now a.entries.now vs ms ∙ does-one a.z (tables a.z a.directory.now a.tasks.now a.chunks.now a.entries.now vs ms) _ c.directory_row-d.ensures _ c.try_from.ensures _ _ c.in_ok-try_from.was c.in-Index.is
 
-pub returns-in_default : goal.returns-in_default
-returns-in_default c = let the-args = c.args in λ vs ms. does-nothing the-args.z (tables the-args.z the-args.directory.now the-args.tasks.now the-args.chunks.now the-args.entries.now vs ms) _ c.directory_row-stage.ensures (search rules) (search rules) (search rules) (search rules) (search rules)
+pub returns-in-Release : goal.returns-in-Release
+returns-in-Release c vs ms = let a = c.args in c.release-report.ensures vs ms ∙ does-one a.z (tables a.z a.directory.now a.tasks.now a.chunks.now a.entries.now vs ms) _ c.directory_row-d.ensures _ c.try_from.ensures _ _ c.in_ok-try_from.was c.in-Release.is

@@ -1,14 +1,14 @@
 use mathlib.Core.Path.{sym}
-use lib.Dec.{lit<}
 use borrow.Author.Tests.{lt-ltb, le-ltb}
-use Rattle.taking.proofs.Laws.{all_laid, all_left, lowest-free-is}
+use Rattle.taking.specs.Left.{room}
+use Rattle.taking.proofs.Laws.{lowest-free-is}
 use Rattle.taking.proofs.lowest_free.Goals as goal
 
-pub strike_named-requires : goal.strike_named-requires
-strike_named-requires c = (all_laid _ (lit< tt), c.requires.0)
+pub returns-in-Some : goal.returns-in-Some
+returns-in-Some c = (sym (rw (lt-ltb _ _ c.if-n-z.true) at (lowest-free-is _ _ _ _ _ c.all-left.ensures c.strike_named.ensures c.strike_held.ensures _ _ c.requires.0.handles (rw c.in-Some.is at c.lowest.ensures))), c.if-n-z.true)
 
-pub returns-then-n-z : goal.returns-then-n-z
-returns-then-n-z c = sym (rw (lt-ltb _ _ c.if-n-z.true) at (lowest-free-is _ _ _ _ _ all_left c.strike_named.ensures c.strike_held.ensures _ _ c.requires.0.handles c.lowest_left-n.ensures))
+pub returns-in_default : goal.returns-in_default
+returns-in_default c = (sym (rw (le-ltb _ _ c.if-n-z.false) at (lowest-free-is _ _ _ _ _ c.all-left.ensures c.strike_named.ensures c.strike_held.ensures _ _ c.requires.0.handles (rw c.in-Some.is at c.lowest.ensures))), tt)
 
-pub returns : goal.returns
-returns c = sym (rw (le-ltb _ _ c.if-n-z.false) at (lowest-free-is _ _ _ _ _ all_left c.strike_named.ensures c.strike_held.ensures _ _ c.requires.0.handles c.lowest_left-n.ensures))
+pub returns-in_default-2 : goal.returns-in_default-2
+returns-in_default-2 c = (sym (rw (le-ltb room _ c.requires.0.handles) at (lowest-free-is _ _ _ _ _ c.all-left.ensures c.strike_named.ensures c.strike_held.ensures _ _ c.requires.0.handles (rw c.in_default.is at c.lowest.ensures))), tt)

@@ -4,14 +4,14 @@ use Rattle.rules.specs.declared.Chunk.{Chunk}
 use Rattle.walks.proofs.Laws.{before-spent, before_here, before-out, before-next}
 use Rattle.walks.proofs.before.Goals as goal
 
-pub returns-then-next-x : goal.returns-then-next-x
-returns-then-next-x c = sym (c.loop-left.invariant ∙ before_here _ _ _ _ (ap (λ (x : Chunk). x.next) c.chunk_at.ensures) _ _ (omega arith) c.if-next-x.true)
+pub returns-then-eq : goal.returns-then-eq
+returns-then-eq c = (sym (c.loop.invariant.0 ∙ before_here _ _ _ _ (ap (λ (x : Chunk). x.next) c.chunk_at.ensures) _ _ (omega arith) (sym c.eq.ensures ∙ c.if-eq.true)), c.loop.invariant.1)
 
 pub returns-then-z-next : goal.returns-then-z-next
-returns-then-z-next c = sym (c.loop-left.invariant ∙ before-out _ _ _ _ (ap (λ (x : Chunk). x.next) c.chunk_at.ensures) _ _ c.if-next-x.false c.if-z-next.true)
+returns-then-z-next c = (sym (c.loop.invariant.0 ∙ before-out _ _ _ _ (ap (λ (x : Chunk). x.next) c.chunk_at.ensures) _ _ (sym c.eq.ensures ∙ c.if-eq.false) c.if-z-next.true), λ h. tt)
 
-pub loop-left-preserved : goal.loop-left-preserved
-loop-left-preserved c = c.loop-left.invariant ∙ before-next _ _ _ _ (ap (λ (x : Chunk). x.next) c.chunk_at.ensures) _ _ (omega arith) c.if-next-x.false c.if-z-next.false
+pub loop-preserved : goal.loop-preserved
+loop-preserved c = (c.loop.invariant.0 ∙ before-next _ _ _ _ (ap (λ (x : Chunk). x.next) c.chunk_at.ensures) _ _ _ (omega arith) (sym c.eq.ensures ∙ c.if-eq.false) c.if-z-next.false, λ h. c.if-z-next.false)
 
 pub returns : goal.returns
-returns c = sym (c.loop-left.invariant ∙ before-spent _ _ _ _ refl _ _ c.loop-left-test.false)
+returns c = (sym (c.loop.invariant.0 ∙ before-spent _ _ _ _ refl _ _ (omega arith)), λ h. tt)

@@ -1,14 +1,8 @@
-use mathlib.Core.Path.{sym, ◌∙◌}
-use native.Mathlib.Omega.{arith}
-use borrow.Author.Tests.{eq-eqb, ne_eqb}
-use Rattle.walks.proofs.Laws.{some-done, some-here, some_next, held-chunk-some}
+use Rattle.std.proofs.Common.{rules}
+use Rattle.std.proofs.iter.runs.Sources.{ranges}
+use Rattle.rows.specs.Rows.{task_of}
+use Rattle.walks.proofs.Laws.{some-told, held-chunk-some}
 use Rattle.walks.proofs.held_chunk.Goals as goal
 
-pub returns-then-t-c : goal.returns-then-t-c
-returns-then-t-c c = sym (c.loop-i.invariant ∙ some-here (held-chunk-some c.args.c) _ _ _ (omega arith) _ c.task_row-t.ensures (eq-eqb _ _ c.if-t-c.true))
-
 pub returns : goal.returns
-returns c = sym (c.loop-i.invariant ∙ some-done (held-chunk-some c.args.c) _ _ _ c.loop-i-test.false)
-
-pub loop-i-preserved : goal.loop-i-preserved
-loop-i-preserved c = c.loop-i.invariant ∙ some_next (held-chunk-some c.args.c) _ _ _ (omega arith) _ c.task_row-t.ensures (ne_eqb _ _ c.if-t-c.false)
+returns c = some-told (held-chunk-some c.args.c) (task_of c.args.tasks.now) c.args.n c.any.result (search (rules, ranges)) (search (rules, ranges))

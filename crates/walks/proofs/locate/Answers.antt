@@ -5,13 +5,13 @@ use Rattle.walks.proofs.Laws.{locate-spent, locate-out, locate-above, locate-nex
 use Rattle.walks.proofs.locate.Goals as goal
 
 pub returns-then-z-next : goal.returns-then-z-next
-returns-then-z-next c = sym (c.loop-left.invariant.0 ∙ locate-out _ _ _ _ c.loop-left.invariant.1 _ _ c.if-z-next.true)
+returns-then-z-next c = sym (c.loop.invariant.0 ∙ locate-out _ _ _ _ c.loop.invariant.1 _ _ c.if-z-next.true)
 
 pub returns-then-k-x : goal.returns-then-k-x
-returns-then-k-x c = sym (c.loop-left.invariant.0 ∙ locate-above _ _ _ _ c.loop-left.invariant.1 _ _ (omega arith) _ c.chunk_at-x.ensures c.if-k-x.true)
+returns-then-k-x c = sym (c.loop.invariant.0 ∙ locate-above _ _ _ _ c.loop.invariant.1 _ _ (omega arith) _ c.chunk_at-x.ensures c.if-k-x.true)
 
-pub loop-left-preserved : goal.loop-left-preserved
-loop-left-preserved c = (c.loop-left.invariant.0 ∙ locate-next _ _ _ _ c.loop-left.invariant.1 _ _ (omega arith) (omega arith) _ c.chunk_at-x.ensures c.if-k-x.false, ap (λ (x : Chunk). x.next) c.chunk_at-x.ensures)
+pub loop-preserved : goal.loop-preserved
+loop-preserved c = (c.loop.invariant.0 ∙ locate-next _ _ _ _ c.loop.invariant.1 _ _ _ (omega arith) (omega arith) _ c.chunk_at-x.ensures c.if-k-x.false, ap (λ (x : Chunk). x.next) c.chunk_at-x.ensures)
 
 pub returns : goal.returns
-returns c = sym (c.loop-left.invariant.0 ∙ locate-spent _ _ _ _ c.loop-left.invariant.1 _ _ c.loop-left-test.false)
+returns c = sym (c.loop.invariant.0 ∙ locate-spent _ _ _ _ c.loop.invariant.1 _ _ (omega arith))

@@ -1,15 +1,31 @@
-use mathlib.Core.List.{[]}
+use native.Mathlib.Omega.{arith}
 use borrow.Author.Tests.{lt-ltb, le-ltb}
+use Rattle.rules.specs.Words.{NONE}
 use Rattle.scanning.proofs.up.scan.Goals as goal
 
 pub entry_at-x-requires : goal.entry_at-x-requires
-entry_at-x-requires c = record { chunk = (c.walk-seen.ensures [] []).numbered; entry = c.if-i-z.true; long = c.requires.1 }
+entry_at-x-requires c =
+    let s = c.args.s.now.lent in
+    let w = rw (c.chart.ensures.0, c.chart.ensures.1, c.chart.ensures.2) at (c.walk-seen.ensures s.tasks.now s.values.now) in
+    record { chunk = w.numbered; entry = (rw c.in-Some.is at w.entry).1; long = s.lends.entries }
 
-pub returns-then-i-z : goal.returns-then-i-z
-returns-then-i-z c = λ ts. let w = c.walk-seen.ensures ts c.args.values.now in rw (le-ltb _ _ c.if-t.false, ← w.entry, ← w.chunk, lt-ltb _ _ c.if-i-z.true, ← c.entry_at-x.ensures, ← c.word_at-v.ensures) c.goes_past.ensures
+pub returns-in-Some : goal.returns-in-Some
+returns-in-Some c =
+    let s = c.args.s.now.lent in
+    let w = rw (c.chart.ensures.0, c.chart.ensures.1, c.chart.ensures.2) at (c.walk-seen.ensures s.tasks.now s.values.now) in
+    let found = rw c.in-Some.is at w.entry in
+    rw (le-ltb _ _ c.if-t.false, ← found.0, ← w.chunk, lt-ltb _ _ found.1, ← c.entry_at-x.ensures, ← c.word_at-v.ensures) c.goes_past.ensures
 
-pub returns-then-j-z : goal.returns-then-j-z
-returns-then-j-z c = λ ts. let w = c.walk-seen.ensures ts c.args.values.now in rw (le-ltb _ _ c.if-t.false, ← w.entry, ← w.chunk, le-ltb _ _ c.if-i-z.false, ← c.chunk_at-y.ensures, lt-ltb _ _ c.if-j-z.true, ← c.chunk_at-n.ensures) c.moves_ends.ensures
+pub returns-then-next-z : goal.returns-then-next-z
+returns-then-next-z c =
+    let s = c.args.s.now.lent in
+    let w = rw (c.chart.ensures.0, c.chart.ensures.1, c.chart.ensures.2) at (c.walk-seen.ensures s.tasks.now s.values.now) in
+    let none = rw c.in_default.is at w.entry in
+    rw (le-ltb _ _ c.if-t.false, ← none.0, ← w.chunk, le-ltb NONE s.z.entries (omega (arith, c.well_formed)), ← c.chunk_at.ensures, lt-ltb _ _ c.if-next-z.true, ← c.chunk_at-key.ensures) c.tells.ensures
 
 pub returns : goal.returns
-returns c = λ ts. let w = c.walk-seen.ensures ts c.args.values.now in rw (le-ltb _ _ c.if-t.false, ← w.entry, ← w.chunk, le-ltb _ _ c.if-i-z.false, ← c.chunk_at-y.ensures, le-ltb _ _ c.if-j-z.false) c.finishes-2.ensures
+returns c =
+    let s = c.args.s.now.lent in
+    let w = rw (c.chart.ensures.0, c.chart.ensures.1, c.chart.ensures.2) at (c.walk-seen.ensures s.tasks.now s.values.now) in
+    let none = rw c.in_default.is at w.entry in
+    rw (le-ltb _ _ c.if-t.false, ← none.0, ← w.chunk, le-ltb NONE s.z.entries (omega (arith, c.well_formed)), ← c.chunk_at.ensures, le-ltb _ _ c.if-next-z.false) c.finishes-2.ensures

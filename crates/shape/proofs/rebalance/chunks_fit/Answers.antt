@@ -1,12 +1,6 @@
-use mathlib.Core.Path.{sym, ◌∙◌}
-use Rattle.listed.proofs.Rows.{each-end, each-fails, each-passes}
+use Rattle.std.proofs.Common.{rules}
+use Rattle.listed.proofs.All.{all-rows}
 use Rattle.shape.proofs.rebalance.chunks_fit.Goals as goal
 
-pub returns-then-not-chunk_fits : goal.returns-then-not-chunk_fits
-returns-then-not-chunk_fits c = sym (c.loop-i.invariant ∙ each-fails _ _ _ _ c.loop-i-test.true _ c.chunk_row-x.ensures (sym c.chunk_fits.ensures ∙ c.if-not-chunk_fits.true))
-
-pub loop-i-preserved : goal.loop-i-preserved
-loop-i-preserved c = c.loop-i.invariant ∙ each-passes _ _ _ _ c.loop-i-test.true _ c.chunk_row-x.ensures (sym c.chunk_fits.ensures ∙ c.if-not-chunk_fits.false)
-
 pub returns : goal.returns
-returns c = sym (c.loop-i.invariant ∙ each-end _ _ _ _ c.loop-i-test.false)
+returns c = all-rows _ _ _ _ c.all.ensures.ran _ _ _ (cc) (λ i b q h. search rules)

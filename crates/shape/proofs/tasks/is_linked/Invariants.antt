@@ -1,11 +1,9 @@
-use Prim.Native.Nat.{◌*◌}
+use Prim.Native.Nat.{◌-◌}
 use mathlib.Core.Path.{◌≡◌}
 use Rattle.rules.specs.Shape.{linked_from}
-use Rattle.rows.specs.Rows.{entry_rows}
+use Rattle.rows.specs.Seen.{seen}
 use Rattle.shape.proofs.tasks.is_linked.Given as goal
 
-abbrev pub invariant-loop-left : goal.invariant-loop-left
-invariant-loop-left l = linked_from l.z (entry_rows (l.z.chunks * l.z.entries) l.entries) l.c l.z.entries l.initial.at l.x ≡ linked_from l.z (entry_rows (l.z.chunks * l.z.entries) l.entries) l.c l.left l.at l.x
-
-abbrev pub decreases-loop-left : goal.decreases-loop-left
-decreases-loop-left l = l.left
+abbrev pub invariant-loop : goal.invariant-loop
+invariant-loop l = let s = l.s in
+    linked_from s.z (seen s).entries l.c s.z.entries l.fn.head l.x ≡ linked_from s.z (seen s).entries l.c (s.z.entries - l.counter) l.at l.x

@@ -1,4 +1,0 @@
-use Rattle.scanning.proofs.down.fill_from.Goals as goal
-
-pub returns : goal.returns
-returns c = λ ts es vs ms. rw (← c.locate-c.ensures ts es vs ms) c.moves_to.ensures

@@ -1,9 +1,0 @@
-use mathlib.Core.Path.{refl}
-use Rattle.taking.proofs.Rows.{going_more, going_done}
-use Rattle.taking.proofs.strike_named.Goals as goal
-
-pub loop-c-preserved : goal.loop-c-preserved
-loop-c-preserved c = (refl, going_more _ _ _ _ c.requires.1 _ _ _ c.loop-c-test.true _ c.chunk_row-x.ensures _ c.first_number-first.ensures.0 c.loop-c.invariant.1 c.strike_rows.ensures)
-
-pub returns : goal.returns
-returns c = going_done c.args.z c.args.entries.now c.args.left.now _ _ c.loop-c-test.false c.loop-c.invariant.1
