@@ -22,7 +22,7 @@ use rules::{
 
 // 4 check
 pub fn check(s: &Lent, t: Task) -> Decision
-    ensures { result ≡ checks s.now.z (seen s.now) t }
+    ensures { (z : Sizes) (d ts cs es : List ℕ) → result ≡ checks z (tables z d ts cs es s.now.values.now s.now.marks.now) t }
 {
     let operation = Operation::try_from(t.operation);
     if rows::word_at(s.marks, t.old) == 0 {
@@ -54,7 +54,7 @@ pub fn applied(f: u64, amount: u64, v: u64) -> u64
 
 // 5 apply
 pub fn apply(s: &Lent, t: Task) -> Decision
-    ensures { result ≡ applies s.now.z (seen s.now) t }
+    ensures { (z : Sizes) (d ts cs es : List ℕ) → result ≡ applies z (tables z d ts cs es s.now.values.now s.now.marks.now) t }
 {
     let h = t.old;
     if rows::word_at(s.marks, h) != 0 {
@@ -73,7 +73,7 @@ pub fn apply(s: &Lent, t: Task) -> Decision
 
 // 6 take entry
 pub fn take_entry(s: &Lent, t: Task) -> Decision
-    ensures { result ≡ takes_entry s.now.z (seen s.now) t }
+    ensures { (d ts es vs ms : List ℕ) → result ≡ takes_entry s.now.z (tables s.now.z d ts s.now.chunks.now es vs ms) t }
 {
     let x = rows::chunk_at(s.z, s.chunks, t.chunk);
     if x.frozen != 0 {
@@ -89,7 +89,7 @@ pub fn take_entry(s: &Lent, t: Task) -> Decision
 // 7 link
 pub fn link(s: &Lent, t: Task) -> Decision
     requires { t.chunk.0 < s.now.z.chunks }
-    ensures { result ≡ links s.now.z (seen s.now) t }
+    ensures { (d ts vs ms : List ℕ) → result ≡ links s.now.z (tables s.now.z d ts s.now.chunks.now s.now.entries.now vs ms) t }
 {
     let x = rows::chunk_at(s.z, s.chunks, t.chunk);
     if x.frozen != 0 {

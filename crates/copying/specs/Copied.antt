@@ -4,7 +4,7 @@ use Rattle.rules.specs.declared.Sizes.{Sizes}
 use Rattle.rules.specs.declared.Entry.{Entry}
 use Rattle.rules.specs.declared.ChunkNo.{ChunkNo}
 use Rattle.rules.specs.Words.{pick, entry_no, no_entry}
-use Rattle.rules.specs.Tables.{row}
+use Rattle.rules.specs.Tables.{entry_at, row}
 use Rattle.rules.specs.Rebalance.{naming_from}
 use Rattle.rows.specs.Rows.{entry_rows}
 use Rattle.copying.specs.declared.Named.{Named}
@@ -29,9 +29,11 @@ module _ (z : Sizes) where
   abbrev pub naming_at : List Entry → Place → List Entry
   naming_at es p = naming_from z es p.chunk p.left p.entry
 
-  -- the walk from p has come to the next entry that names a handle, or there is none
+  -- the walk from p has come to the next entry that names a handle, number `at`, or there is none
   abbrev pub Steps : List Entry → Place → Option Named → Type 0
-  Steps es p o = MatchOption o (naming_at es p ≡ []) (λ r. (naming_at es p ≡ r.entry ∷ naming_at es r.rest) × (r.rest.left < p.left) × (r.rest.chunk ≡ p.chunk))
+  Steps es p o =
+      MatchOption o (naming_at es p ≡ [])
+      (λ r. (naming_at es p ≡ r.entry ∷ naming_at es r.rest) × (r.rest.left < p.left) × (r.rest.chunk ≡ p.chunk) × (r.at.0 < z.entries) × (r.entry ≡ entry_at z es p.chunk r.at) × (r.entry.handle.0 < z.handles) × (r.rest.entry ≡ r.entry.next))
 
   -- so many entries from p on, in the words lent, can go into another chunk
   pub record Fills (ws : List ℕ) (p : Place) (d : ChunkNo) (many : ℕ) : Type 0 where

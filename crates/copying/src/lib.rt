@@ -15,9 +15,10 @@ pub struct Place {
     pub left: usize,
 }
 
-// An entry that names a handle, and where the walk stands after it.
+// An entry that names a handle, its number in the chunk, and where the walk stands after it.
 #[derive(Clone, Copy)]
 pub struct Named {
+    pub at: EntryNo,
     pub entry: Entry,
     pub rest: Place,
 }
@@ -39,7 +40,7 @@ pub fn naming(z: Sizes, entries: &[u64], from: Place) -> Option<Named>
                 left,
                 ..from
             };
-            return Some(Named { entry: x, rest });
+            return Some(Named { at, entry: x, rest });
         }
         at = x.next;
     }

@@ -1,7 +1,8 @@
 -- The walk along the chain, one step, told by the row that the code has read; and the chunks of a status, counted row by row.
-use Prim.Native.Nat.{ℕ, zero, suc, ◌+◌, ◌≤◌, ◌<◌, zero-le}
+use Prim.Native.Nat.{ℕ, zero, suc, ◌+◌, ◌-◌, ◌≤◌, ◌<◌, zero-le}
 use mathlib.Core.Path.{◌≡◌, refl, sym, ◌∙◌}
-use mathlib.Core.Bool.{Bool, true, false, cond, ◌&&◌}
+use mathlib.Core.Bool.{Bool, true, false, ◌&&◌}
+use mathlib.Core.Logic.{◌≢◌}
 use mathlib.Core.List.{List, [], ◌∷◌}
 use native.Mathlib.Nat.{le_antisymm}
 use native.Mathlib.Omega.{arith}
@@ -10,8 +11,7 @@ use lib.ListN.{length}
 use Rattle.std.specs.declared.option.Option.{Option}
 use Rattle.std.specs.declared.option.Option.TheVariants.{Some, None}
 use Rattle.std.specs.Option.{option_eq}
-use Rattle.std.specs.List.{filter, range_with_len}
-use borrow.Author.Tests.{lt-ltb, le-ltb, ne_eqb}
+use borrow.Author.Tests.{lt-ltb, le-ltb, eq-eqb, ne_eqb}
 use Rattle.rules.specs.declared.Sizes.{Sizes}
 use Rattle.rules.specs.declared.Directory.{Directory}
 use Rattle.rules.specs.declared.Chunk.{Chunk}
@@ -80,15 +80,22 @@ count-fits status (x ∷ l) = go (eqb x.status status) (count-fits status l)
     go true h = omega arith
     go false h = omega arith
 
--- the numbers of the rows with the status
-one_more : (b : Bool) (i : ℕ) (l : List ℕ) (m : ℕ) → length l ≡ m → length (cond b (i ∷ l) l) ≡ pick b (m + 1) m
-one_more true i l m h = omega (arith, h)
-one_more false i l m h = h
+-- those from row i on, of n
+abbrev pub left-of : ℕ → (ℕ → Chunk) → ℕ → ℕ → ℕ
+left-of status f n i = count_of status (rows_from f i (n - i))
 
-pub count-chosen : (status : ℕ) (f : ℕ → Chunk) (i n : ℕ) → length (filter (λ k. eqb (f k).status status) (range_with_len i n)) ≡ count_of status (rows_from f i n)
-unfolding count_of rows_from
-count-chosen status f i zero = refl
-count-chosen status f i (suc n) = one_more (eqb (f i).status status) i _ _ (count-chosen status f (i + 1) n)
+module _ (status : ℕ) (f : ℕ → Chunk) (n : ℕ) where
+  pub count-end : (i : ℕ) → n ≤ i → left-of status f n i ≡ 0
+  unfolding count_of rows_from
+  count-end i h = let e : n - i ≡ 0 = omega arith in rw e
+
+  pub count-one : (i : ℕ) → i < n → (x : Chunk) → x ≡ f i → x.status ≡ status → left-of status f n i ≡ left-of status f n (i + 1) + 1
+  unfolding count_of rows_from
+  count-one i h x q t = let s : (f i).status ≡ status = rw q at t in let e : n - i ≡ suc (n - (i + 1)) = omega arith in rw (e, eq-eqb (f i).status status s)
+
+  pub count_none : (i : ℕ) → i < n → (x : Chunk) → x ≡ f i → x.status ≢ status → left-of status f n i ≡ left-of status f n (i + 1)
+  unfolding count_of rows_from
+  count_none i h x q t = let s : (f i).status ≢ status = rw q at t in let e : n - i ≡ suc (n - (i + 1)) = omega arith in rw (e, ne_eqb (f i).status status s)
 
 -- ---- the chain's count held against that of the live chunks
 same-count : (z : Sizes) (o : Option ℕ) (m : ℕ) → m ≤ z.chunks → option_eq eqb o (Some m) ≡ eqb (counted z o) m

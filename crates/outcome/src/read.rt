@@ -1,7 +1,7 @@
 // The lent tables as a stage reads them: the chain and the index are right, and a chunk's slots past its used ones name no handle.
-ghost use Rattle.std.specs.Prelude.{◌≡◌};
+ghost use Rattle.std.specs.Prelude.{◌≡◌, ℕ, List};
 ghost use Rattle.rules.specs.Walks.{locate};
-ghost use Rattle.rows.specs.Seen.{seen};
+ghost use Rattle.rows.specs.Rows.{tables};
 ghost use Rattle.locating.specs.Charted.{Charted};
 ghost use Rattle.taking.specs.Slotted.{Slotted};
 
@@ -30,7 +30,7 @@ impl<'a> Read<'a> {
 
     // The live chunk whose range has the key.
     pub fn locate(&self, k: u64) -> ChunkNo
-        ensures { result ≡ locate self.now.lent.z (seen self.now.lent) k }
+        ensures { (ts es vs ms : List ℕ) → result ≡ locate self.now.lent.z (tables self.now.lent.z self.now.lent.directory.now ts self.now.lent.chunks.now es vs ms) k }
     {
         self.chart().locate(k)
     }

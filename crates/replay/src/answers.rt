@@ -1,10 +1,8 @@
 // The lines that answer, as far as they are not written yet.
 ghost use Rattle.std.specs.Prelude.{◌+◌, ◌<◌, ◌≡◌, length};
 
-use rules::Report;
 use script::Out;
-use std::fmt::Write;
-use std::{fmt, io};
+use std::io;
 
 // No line has more bytes.
 const LONGEST: usize = 512;
@@ -38,7 +36,7 @@ impl<'a, P: Print> Answers<'a, P> {
     }
 
     // Makes room for any line: where the buffer has less, what waits is written first.
-    fn make_room(&mut self)
+    pub fn make_room(&mut self)
         ensures { 512 < length self.old.waiting.bytes.now → self.new.waiting.at + 512 < length self.new.waiting.bytes.now }
     {
         if self.waiting.room() <= LONGEST {
@@ -47,21 +45,9 @@ impl<'a, P: Print> Answers<'a, P> {
         }
     }
 
-    // Puts a report's line.
-    pub fn report(&mut self, r: Report) -> fmt::Result {
+    // Where the next line is put, with room for any.
+    pub fn line(&mut self) -> &mut Out<'a> {
         self.make_room();
-        script::report(&mut self.waiting, r)
-    }
-
-    // Puts a line of the text.
-    pub fn text(&mut self, text: &str) -> fmt::Result {
-        self.make_room();
-        script::text_line(&mut self.waiting, text)
-    }
-
-    // Puts a line for a row of the tables.
-    pub fn row<D: fmt::Display + Drop>(&mut self, x: D) -> fmt::Result {
-        self.make_room();
-        self.waiting.writeln(x)
+        &mut self.waiting
     }
 }

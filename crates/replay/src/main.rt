@@ -6,7 +6,6 @@ mod tables;
 
 use answers::Answers;
 use script::{Asked, Line};
-use std::fmt;
 use std::io::Read;
 use tables::Tables;
 
@@ -19,51 +18,49 @@ struct Run<'a, P: Print> {
 }
 
 impl<P: Print> Run<'_, P> {
-    // Answers the line, which has ended.
-    fn answer(&mut self) -> fmt::Result {
+    // Answers the line, which has ended; any line makes room, also one that has no answer.
+    fn answer(&mut self) {
         let asked = self.line.asks();
         self.line = Line::empty();
         let told = match asked {
-            Asked::Nothing => return Ok(()),
-            Asked::NoCall => return self.answers.text("no call"),
+            Asked::Nothing => return self.answers.make_room(),
+            Asked::NoCall => return script::text_line(self.answers.line(), b"no call"),
             Asked::Tables => return self.tables.print(&mut self.answers),
             Asked::Start(n, op, k, a, f) => self.tables.start(n, op, k, a, f),
             Asked::Step(n) => self.tables.step(n),
             Asked::Begin(k) => self.tables.begin(k),
             Asked::Rebalance => self.tables.rebalance(),
         };
-        self.answers.report(told)
+        script::report(self.answers.line(), told)
     }
 
     // Takes each byte of a block.
-    fn take(&mut self, block: &[u8]) -> fmt::Result {
+    fn take(&mut self, block: &[u8]) {
         for b in block {
             match *b {
-                b'\n' => self.answer()?,
-                b => self.line = self.line.next(b),
+                b'\n' => self.answer(),
+                b => self.line.take(b),
             }
         }
-        Ok(())
     }
 }
 
 // Reads to the end of the input; the last line may lack its newline.
 // A loop has to end, so it counts its turns up to a number that no run comes to.
-fn replay<R: Input + Print>(rt: &R, input: &mut [u8], run: &mut Run<'_, R>) -> fmt::Result {
+fn replay<R: Input + Print>(rt: &R, input: &mut [u8], run: &mut Run<'_, R>) {
     for _ in 0..u64::MAX {
         let n = rt.reader().read(input).unwrap_or(0);
         if n == 0 {
             break;
         }
-        run.take(&input[..n])?;
+        run.take(&input[..n]);
         if run.answers.write().is_err() {
             break;
         }
     }
-    run.answer()?;
+    run.answer();
     // The run has ended, so a failure would end nothing more.
     let _ = run.answers.write();
-    Ok(())
 }
 
 fn main(rt: HostRuntime) {
@@ -76,5 +73,5 @@ fn main(rt: HostRuntime) {
         line: Line::empty(),
         answers: Answers::new(&rt, &mut out),
     };
-    let _ = replay(&rt, &mut input, &mut run);
+    replay(&rt, &mut input, &mut run);
 }

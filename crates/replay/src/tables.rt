@@ -4,8 +4,6 @@ ghost use Rattle.rules.specs.Words.{limits};
 
 use crate::answers::Answers;
 use rules::{Chunk, Directory, Report};
-use script::{ChunkLine, DirectoryLines, EntryLine, HandleLine, IndexLine, StackLine, TaskLine};
-use std::fmt;
 
 // How many words the lent tables have; the index stands after the directory's row, a task's stack after every task's row.
 const DIRECTORY_LENGTH: usize = rows::DIRECTORY_WORDS + Directory::CHUNKS * rows::INDEX_WORDS;
@@ -109,69 +107,64 @@ impl Tables {
     }
 
     // Every table.
-    pub fn print(&self, to: &mut Answers<'_, impl Print>) -> fmt::Result {
-        self.print_directory(to)?;
-        self.print_chunks(to)?;
-        self.print_handles(to)?;
-        self.print_tasks(to)
+    pub fn print(&self, to: &mut Answers<'_, impl Print>) {
+        self.print_directory(to);
+        self.print_chunks(to);
+        self.print_handles(to);
+        self.print_tasks(to);
     }
 
     // The directory's row, and the rows of the index that are in use.
-    fn print_directory(&self, to: &mut Answers<'_, impl Print>) -> fmt::Result {
+    fn print_directory(&self, to: &mut Answers<'_, impl Print>) {
         let d = rows::directory_row(&self.directory);
-        to.row(DirectoryLines(d))?;
+        script::directory_lines(to.line(), d);
         for i in 0..Directory::CHUNKS.min(d.indexed as usize) {
-            to.row(IndexLine(i, rows::index_row(&self.directory, i)))?;
+            script::index_line(to.line(), i as u64, rows::index_row(&self.directory, i));
         }
-        Ok(())
     }
 
     // The chunks that are not unused, each with its used entries.
-    fn print_chunks(&self, to: &mut Answers<'_, impl Print>) -> fmt::Result {
+    fn print_chunks(&self, to: &mut Answers<'_, impl Print>) {
         for i in 0..Directory::CHUNKS {
             let c = rows::chunk_row(&self.chunks, i);
             if c.status != Chunk::UNUSED {
-                to.row(ChunkLine(i, c))?;
-                self.print_entries(i, c.used, to)?;
+                script::chunk_line(to.line(), i as u64, c);
+                self.print_entries(i, c.used, to);
             }
         }
-        Ok(())
     }
 
     // The used entries of chunk i.
-    fn print_entries(&self, i: usize, used: u64, to: &mut Answers<'_, impl Print>) -> fmt::Result
+    fn print_entries(&self, i: usize, used: u64, to: &mut Answers<'_, impl Print>)
         requires { i < limits.chunks }
     {
         for e in 0..Directory::ENTRIES.min(used as usize) {
             let x = rows::entry_row(&self.entries, i * Directory::ENTRIES + e);
-            to.row(EntryLine(i, e, x))?;
+            script::entry_line(to.line(), i as u64, e as u64, x);
         }
-        Ok(())
     }
 
     // The handles, but for those whose value is 0 and that are not deleted.
-    fn print_handles(&self, to: &mut Answers<'_, impl Print>) -> fmt::Result {
+    fn print_handles(&self, to: &mut Answers<'_, impl Print>) {
         for (h, (value, mark)) in self.values.iter().zip(&self.marks).enumerate() {
             if *value != 0 || *mark != 0 {
-                to.row(HandleLine(h, *value, *mark))?;
+                script::handle_line(to.line(), h as u64, *value, *mark);
             }
         }
-        Ok(())
     }
 
     // The tasks at work, each with its stack where there are entries on it.
-    fn print_tasks(&self, to: &mut Answers<'_, impl Print>) -> fmt::Result {
+    fn print_tasks(&self, to: &mut Answers<'_, impl Print>) {
         for i in 0..Directory::TASKS {
             let t = rows::task_row(&self.tasks, i);
             if t.stage != 0 {
-                to.row(TaskLine(i, t))?;
+                script::task_line(to.line(), i as u64, t);
                 let stack = self.stack(i);
                 if stack[0] != rules::NONE {
-                    to.row(StackLine(i, stack))?;
+                    script::stack_line(to.line(), i as u64, stack);
                 }
             }
         }
-        Ok(())
     }
 
     // The words of task i's stack.

@@ -1,9 +1,10 @@
 // Stage 23: the scan from the top key down (document 02, E1).
-ghost use Rattle.std.specs.Prelude.{◌≡◌, ◌<◌};
+ghost use Rattle.std.specs.Prelude.{◌≡◌, List, ℕ, ◌<◌};
 ghost use Rattle.rules.specs.declared.Write.TheVariants as write;
 ghost use Rattle.rules.specs.Words.{no_entry, no_handle};
 ghost use Rattle.rules.specs.Walks.{locate};
 ghost use Rattle.rules.specs.Stages.{goes_to, moves, takes_off, scans_down};
+ghost use Rattle.rows.specs.Rows.{tables};
 ghost use Rattle.rows.specs.Seen.{seen};
 
 use crate::up::is_undeleted;
@@ -14,7 +15,7 @@ use rules::{Chunk, ChunkNo, Decision, Entry, EntryNo, HandleNo, NONE, Report, Ta
 // One entry is off the stack: a pair where it names an undeleted handle.
 pub fn take_off(s: &Lent, t: Task, e: EntryNo) -> Decision
     requires { e.0 < s.now.z.entries }
-    ensures { result ≡ takes_off s.now.z (seen s.now) t e }
+    ensures { (d ts cs : List ℕ) → result ≡ takes_off s.now.z (tables s.now.z d ts cs s.now.entries.now s.now.values.now s.now.marks.now) t e }
 {
     let x = walks::entry_in(s.z, s.entries, t.chunk, e);
     if is_undeleted(s.z, s.marks, x.handle) {
@@ -27,7 +28,7 @@ pub fn take_off(s: &Lent, t: Task, e: EntryNo) -> Decision
 // The stack is to be filled from the live chunk that has the key. As a call of its own it would have its decision copied by `memcpy`, which the archive may not ask for.
 #[inline(always)]
 pub fn fill_from(s: &Read, t: Task, k: u64) -> Decision
-    ensures { result ≡ moves (goes_to t 23 (locate s.now.lent.z (seen s.now.lent) k) no_entry no_handle no_handle 0 0) write.Nothing }
+    ensures { (ts es vs ms : List ℕ) → result ≡ moves (goes_to t 23 (locate s.now.lent.z (tables s.now.lent.z s.now.lent.directory.now ts s.now.lent.chunks.now es vs ms) k) no_entry no_handle no_handle 0 0) write.Nothing }
 {
     let filling = Task {
         stage: 23,

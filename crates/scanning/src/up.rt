@@ -6,7 +6,6 @@ ghost use Rattle.rules.specs.Tables.{chunk_at};
 ghost use Rattle.rules.specs.Walks.{lies, undeleted};
 ghost use Rattle.rules.specs.Stages.{goes_past, scans};
 ghost use Rattle.rows.specs.Rows.{tables, chunk_rows};
-ghost use Rattle.rows.specs.Seen.{seen};
 ghost use Rattle.outcome.specs.Lengths.{Chunks, Entries};
 ghost use Rattle.scanning.specs.Walked.{Walked};
 
@@ -97,7 +96,7 @@ pub fn goes_past(t: Task, k: u64, pair: Report) -> Decision
 
 // 22 scan
 pub fn scan(s: &Read, t: Task) -> Decision
-    ensures { result ≡ scans s.now.lent.z (seen s.now.lent) t }
+    ensures { (ts : List ℕ) → result ≡ scans s.now.lent.z (tables s.now.lent.z s.now.lent.directory.now ts s.now.lent.chunks.now s.now.lent.entries.now s.now.lent.values.now s.now.lent.marks.now) t }
 {
     let lent = s.lent;
     let z = lent.z;

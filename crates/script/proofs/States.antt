@@ -24,7 +24,7 @@ use Rattle.script.proofs.Verbs.{is_named, long_unnamed, asks_verb, asks_unnamed,
 use Rattle.script.proofs.Words.{differ, word-grows, word-ends, longer, leads-on, filled_more, before_filled, before_more, last_word, blank_end, settled_end}
 
 -- ---- the first word
-pub remark_begins : (l : List ℕ) → OnlyBlanks l → Settled Nothing (l ++ (35 ∷ []))
+remark_begins : (l : List ℕ) → OnlyBlanks l → Settled Nothing (l ++ (35 ∷ []))
 remark_begins l o rest =
     let first = leads-on (λ (w : List ℕ). comment w ≡ true) (λ w b c. still w b c) (λ w c. some w c) rest (35 ∷ []) refl in
     ap asked (ap words (longer l 35 rest) ∙ o (35 ∷ rest) ∙ word-grows [] 35 rest refl ∙ first.leads) ∙ rw first.has
@@ -36,6 +36,9 @@ remark_begins l o rest =
     some : (w : List ℕ) → comment w ≡ true → filled w ≡ true
     some [] c = c
     some (a ∷ w) c = refl
+
+pub remark_from : (l : List ℕ) (b : ℕ) → b ≡ 35 → OnlyBlanks l → Settled Nothing (l ++ (b ∷ []))
+remark_from l b e o = rw e (remark_begins l o)
 
 pub word_begins : (l : List ℕ) (b : ℕ) (w : Word) → blank b ≡ false → eqb b 35 ≡ false → letters_of w ≡ b ∷ [] → OnlyBlanks l → InFirst w (l ++ (b ∷ []))
 word_begins l b w e c q o =

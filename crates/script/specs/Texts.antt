@@ -5,6 +5,7 @@ use Rattle.std.specs.Fmt.{decimal}
 use Rattle.rules.specs.Words.{pick}
 use Rattle.rules.specs.declared.Chunk.{Chunk}
 use Rattle.rules.specs.declared.Entry.{Entry}
+use Rattle.rules.specs.declared.Task.{Task}
 use Rattle.rules.specs.declared.Directory.{Directory}
 use Rattle.rules.specs.declared.IndexRow.{IndexRow}
 use Rattle.rules.specs.declared.RebalanceStage.{RebalanceStage}
@@ -52,6 +53,19 @@ entry_text i e x = codes "entry " ++ decimal i ++ codes " " ++ decimal e ++ code
 
 abbrev pub handle_text : ℕ → ℕ → ℕ → List ℕ
 handle_text h value mark = codes "handle " ++ decimal h ++ codes " value " ++ decimal value ++ flag_text mark (codes " deleted")
+
+abbrev pub task_text : ℕ → Task → List ℕ
+task_text i t =
+    (codes "task " ++ decimal i ++ codes " stage " ++ decimal t.stage ++ codes " operation " ++ decimal t.operation ++ codes " function " ++ decimal t.function ++ codes " key " ++ decimal t.key ++ codes " argument " ++ decimal t.argument)
+    ++ (codes " chunk " ++ perhaps_text t.chunk.0 ++ codes " entry " ++ perhaps_text t.entry.0 ++ codes " old " ++ perhaps_text t.old.0 ++ codes " new " ++ perhaps_text t.new.0 ++ codes " published " ++ decimal t.published ++ codes " swapped " ++ decimal t.swapped)
+
+-- the first word that is none ends a stack
+unfoldable pub stacked_text : List ℕ → List ℕ
+stacked_text [] = []
+stacked_text (e ∷ l) = let rest = stacked_text l in pick (eqb e 18446744073709551615) [] (codes " " ++ decimal e ++ rest)
+
+abbrev pub stack_text : ℕ → List ℕ → List ℕ
+stack_text i words = codes "stack " ++ decimal i ++ stacked_text words
 
 abbrev pub new_chunk_text : ℕ → List ℕ
 new_chunk_text c = pick (eqb c 18446744073709551615) [] (codes " new " ++ decimal c)

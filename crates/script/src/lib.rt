@@ -10,7 +10,8 @@ mod word;
 
 pub use line::{Asked, Line, meant};
 pub use out::Out;
-pub use print::{Told, report, text_line};
+pub use print::{report, text_line};
 pub use tables::{
-    ChunkLine, DirectoryLines, EntryLine, HandleLine, IndexLine, StackLine, TaskLine,
+    chunk_line, directory_lines, entry_line, handle_line, index_line, stack_begins, stack_ends,
+    stack_entry, stack_line, task_line,
 };

@@ -178,6 +178,27 @@ impl Line {
         }
     }
 
+    // The same in place, since a line is long to copy and little of it changes.
+    pub fn take(&mut self, b: u8)
+        ensures { (l : List ℕ) → Reads self.old l → Reads self.new (l ++ (b ∷ [])) }
+    {
+        if is_blank(b) {
+            return match self {
+                Line::Blank => {}
+                Line::Remark | Line::NoCall => {}
+                _ => *self = self.next(b),
+            };
+        }
+        match self {
+            Line::Remark | Line::NoCall => {}
+            Line::Call(_, _, number) => match digit(number.unwrap_or(0), b) {
+                Some(longer) => *number = Some(longer),
+                None => *self = Line::NoCall,
+            },
+            _ => *self = self.next(b),
+        }
+    }
+
     // What the line asks, if it ends here.
     pub fn asks(self) -> Asked
         ensures { (l : List ℕ) → Reads self l → result ≡ meaning l }

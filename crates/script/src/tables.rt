@@ -1,44 +1,21 @@
 // A line for each row of the tables.
-ghost use Rattle.std.specs.Prelude.{◌≡◌, Some};
-ghost use Rattle.script.specs.Texts.{new_chunk_text, stage_text, directory_text, perhaps_text, flag_text, status_text, index_text, chunk_text, entry_text, handle_text};
+ghost use lib.Chars.{codes};
+ghost use Rattle.std.specs.Prelude.{◌≡◌, [], ◌++◌};
+ghost use Rattle.std.specs.Fmt.{decimal};
+ghost use Rattle.script.specs.Puts.{Puts, PutsLine};
+ghost use Rattle.script.specs.Texts.{new_chunk_text, stage_text, rebalance_text, directory_text, flag_text, status_text, index_text, chunk_text, entry_text, handle_text, perhaps_text, task_text, stack_text};
+ghost use Rattle.rules.specs.Kinds.{rebalance_stage_of};
 
+use crate::out::Out;
 use rules::{Chunk, Directory, Entry, IndexRow, RebalanceStage, Task};
-use std::fmt;
 
-// A number that may be none.
-#[derive(Clone, Copy, Drop)]
-struct Perhaps(u64);
-
-impl fmt::Display for Perhaps {
-    ghost output = { λ t. Some (perhaps_text t.0) };
-
-    fn fmt<W: fmt::Write>(&self, f: &mut fmt::Formatter<W>) -> fmt::Result {
-        match self.0 {
-            rules::NONE => write!(f, "none"),
-            n => write!(f, "{n}"),
-        }
-    }
-}
-
-// A word where a flag is set.
-fn flag(mark: u64, text: &'static str) -> &'static str
-    ensures { result.now ≡ flag_text mark text.now }
+// A new chunk of a rebalance, as far as there is one.
+fn new_chunk(out: &mut Out, c: u64)
+    ensures { Puts out.old.bytes.now out.new.bytes.now out.old.at (new_chunk_text c) out.new.at }
 {
-    if mark == 0 { "" } else { text }
-}
-
-// The new chunks of a rebalance, as far as there are any.
-#[derive(Clone, Copy, Drop)]
-struct NewChunk(u64);
-
-impl fmt::Display for NewChunk {
-    ghost output = { λ t. Some (new_chunk_text t.0) };
-
-    fn fmt<W: fmt::Write>(&self, f: &mut fmt::Formatter<W>) -> fmt::Result {
-        match self.0 {
-            rules::NONE => Ok(()),
-            c => write!(f, " new {c}"),
-        }
+    match c {
+        rules::NONE => out.put(b""),
+        c => out.field(b" new ", c),
     }
 }
 
@@ -55,41 +32,38 @@ fn stage_name(stage: RebalanceStage) -> &'static str
     }
 }
 
-// The directory's own row: its first live chunk, and the rebalance, idle or its stage, its old chunk and its new ones.
-#[derive(Clone, Copy, Drop)]
-pub struct DirectoryLines(pub Directory);
-
-impl fmt::Display for DirectoryLines {
-    ghost output = { λ t. Some (directory_text t.0) };
-
-    fn fmt<W: fmt::Write>(&self, f: &mut fmt::Formatter<W>) -> fmt::Result {
-        let d = self.0;
-        writeln!(f, "directory first {}", d.first.0)?;
-        match RebalanceStage::try_from(d.stage) {
-            Err(_) => write!(f, "rebalance idle"),
-            Ok(stage) => write!(
-                f,
-                "rebalance {} old {}{}{}",
-                stage_name(stage),
-                d.old.0,
-                NewChunk(d.new.0),
-                NewChunk(d.second.0)
-            ),
+// The rebalance: idle, or its stage, its old chunk and its new ones.
+fn rebalance_line(out: &mut Out, d: Directory)
+    ensures { PutsLine out.old.bytes.now out.new.bytes.now out.old.at (rebalance_text (rebalance_stage_of d.stage) d) out.new.at }
+{
+    match RebalanceStage::try_from(d.stage) {
+        Err(_) => out.line(b"rebalance idle"),
+        Ok(stage) => {
+            out.put(b"rebalance ");
+            out.put(stage_name(stage).as_bytes());
+            out.field(b" old ", d.old.0);
+            new_chunk(out, d.new.0);
+            new_chunk(out, d.second.0);
+            out.put(b"\n");
         }
     }
 }
 
+// The directory's own row, two lines: its first live chunk, and the rebalance.
+pub fn directory_lines(out: &mut Out, d: Directory)
+    ensures { PutsLine out.old.bytes.now out.new.bytes.now out.old.at (directory_text d) out.new.at }
+{
+    out.last(b"directory first ", d.first.0);
+    rebalance_line(out, d);
+}
+
 // Row i of the index.
-#[derive(Clone, Copy, Drop)]
-pub struct IndexLine(pub usize, pub IndexRow);
-
-impl fmt::Display for IndexLine {
-    ghost output = { λ t. Some (index_text t.0 t.1) };
-
-    fn fmt<W: fmt::Write>(&self, f: &mut fmt::Formatter<W>) -> fmt::Result {
-        let IndexLine(i, x) = *self;
-        write!(f, "index {i} min {} chunk {}", x.min, x.chunk.0)
-    }
+pub fn index_line(out: &mut Out, i: u64, x: IndexRow)
+    ensures { PutsLine out.old.bytes.now out.new.bytes.now out.old.at (index_text i x) out.new.at }
+{
+    out.field(b"index ", i);
+    out.field(b" min ", x.min);
+    out.last(b" chunk ", x.chunk.0);
 }
 
 // A chunk's status.
@@ -103,102 +77,112 @@ fn status_name(c: Chunk) -> &'static str
     }
 }
 
+// What chunk i is.
+fn chunk_begins(out: &mut Out, i: u64, c: Chunk)
+    ensures { Puts out.old.bytes.now out.new.bytes.now out.old.at (codes "chunk " ++ decimal i ++ codes " " ++ status_text c.status ++ flag_text c.frozen (codes " frozen")) out.new.at }
+{
+    out.field(b"chunk ", i);
+    out.put(b" ");
+    out.put(status_name(c).as_bytes());
+    out.flag(c.frozen, b" frozen");
+}
+
 // Chunk i.
-#[derive(Clone, Copy, Drop)]
-pub struct ChunkLine(pub usize, pub Chunk);
-
-impl fmt::Display for ChunkLine {
-    ghost output = { λ t. Some (chunk_text t.0 t.1) };
-
-    fn fmt<W: fmt::Write>(&self, f: &mut fmt::Formatter<W>) -> fmt::Result {
-        let ChunkLine(i, c) = *self;
-        write!(
-            f,
-            "chunk {i} {}{}",
-            status_name(c),
-            flag(c.frozen, " frozen")
-        )?;
-        write!(
-            f,
-            " min {} next {} head {} used {}",
-            c.min,
-            Perhaps(c.next.0),
-            Perhaps(c.head.0),
-            c.used
-        )
-    }
+pub fn chunk_line(out: &mut Out, i: u64, c: Chunk)
+    ensures { PutsLine out.old.bytes.now out.new.bytes.now out.old.at (chunk_text i c) out.new.at }
+{
+    chunk_begins(out, i, c);
+    out.field(b" min ", c.min);
+    out.perhaps(b" next ", c.next.0);
+    out.perhaps(b" head ", c.head.0);
+    out.last(b" used ", c.used);
 }
 
 // Chunk i's entry e.
-#[derive(Clone, Copy, Drop)]
-pub struct EntryLine(pub usize, pub usize, pub Entry);
-
-impl fmt::Display for EntryLine {
-    ghost output = { λ t. Some (entry_text t.0 t.1 t.2) };
-
-    fn fmt<W: fmt::Write>(&self, f: &mut fmt::Formatter<W>) -> fmt::Result {
-        let EntryLine(i, e, x) = *self;
-        write!(
-            f,
-            "entry {i} {e} key {} handle {} next {}",
-            x.key,
-            Perhaps(x.handle.0),
-            Perhaps(x.next.0)
-        )
-    }
+pub fn entry_line(out: &mut Out, i: u64, e: u64, x: Entry)
+    ensures { PutsLine out.old.bytes.now out.new.bytes.now out.old.at (entry_text i e x) out.new.at }
+{
+    out.field(b"entry ", i);
+    out.field(b" ", e);
+    out.field(b" key ", x.key);
+    out.perhaps(b" handle ", x.handle.0);
+    out.perhaps(b" next ", x.next.0);
+    out.put(b"\n");
 }
 
 // Handle h's value and mark.
-#[derive(Clone, Copy, Drop)]
-pub struct HandleLine(pub usize, pub u64, pub u64);
-
-impl fmt::Display for HandleLine {
-    ghost output = { λ t. Some (handle_text t.0 t.1 t.2) };
-
-    fn fmt<W: fmt::Write>(&self, f: &mut fmt::Formatter<W>) -> fmt::Result {
-        let HandleLine(h, value, mark) = *self;
-        write!(f, "handle {h} value {value}{}", flag(mark, " deleted"))
-    }
+pub fn handle_line(out: &mut Out, h: u64, value: u64, mark: u64)
+    ensures { PutsLine out.old.bytes.now out.new.bytes.now out.old.at (handle_text h value mark) out.new.at }
+{
+    out.field(b"handle ", h);
+    out.field(b" value ", value);
+    out.flag(mark, b" deleted");
+    out.put(b"\n");
 }
 
-// Task i: what it does, and what it holds. Its text is not stated: with so many writes the proof did not close.
-#[derive(Clone, Copy, Drop)]
-pub struct TaskLine(pub usize, pub Task);
-
-impl fmt::Display for TaskLine {
-    fn fmt<W: fmt::Write>(&self, f: &mut fmt::Formatter<W>) -> fmt::Result {
-        let TaskLine(i, t) = *self;
-        write!(f, "task {i} stage {} operation {}", t.stage, t.operation)?;
-        write!(
-            f,
-            " function {} key {} argument {}",
-            t.function, t.key, t.argument
-        )?;
-        write!(
-            f,
-            " chunk {} entry {}",
-            Perhaps(t.chunk.0),
-            Perhaps(t.entry.0)
-        )?;
-        write!(f, " old {} new {}", Perhaps(t.old.0), Perhaps(t.new.0))?;
-        write!(f, " published {} swapped {}", t.published, t.swapped)
-    }
+// What task i does.
+fn task_work(out: &mut Out, i: u64, t: Task)
+    ensures { Puts out.old.bytes.now out.new.bytes.now out.old.at (codes "task " ++ decimal i ++ codes " stage " ++ decimal t.stage ++ codes " operation " ++ decimal t.operation ++ codes " function " ++ decimal t.function ++ codes " key " ++ decimal t.key ++ codes " argument " ++ decimal t.argument) out.new.at }
+{
+    out.field(b"task ", i);
+    out.field(b" stage ", t.stage);
+    out.field(b" operation ", t.operation);
+    out.field(b" function ", t.function);
+    out.field(b" key ", t.key);
+    out.field(b" argument ", t.argument);
 }
 
-// The entries on task i's stack, the top last; the first word that is none ends them. Its text is not stated: the loop would need an invariant on what an unknown writer has taken.
-#[derive(Clone, Copy, Drop)]
-pub struct StackLine<'a>(pub usize, pub &'a [u64]);
+// What a task holds.
+fn task_holds(out: &mut Out, t: Task)
+    ensures { PutsLine out.old.bytes.now out.new.bytes.now out.old.at (codes " chunk " ++ perhaps_text t.chunk.0 ++ codes " entry " ++ perhaps_text t.entry.0 ++ codes " old " ++ perhaps_text t.old.0 ++ codes " new " ++ perhaps_text t.new.0 ++ codes " published " ++ decimal t.published ++ codes " swapped " ++ decimal t.swapped) out.new.at }
+{
+    out.perhaps(b" chunk ", t.chunk.0);
+    out.perhaps(b" entry ", t.entry.0);
+    out.perhaps(b" old ", t.old.0);
+    out.perhaps(b" new ", t.new.0);
+    out.field(b" published ", t.published);
+    out.last(b" swapped ", t.swapped);
+}
 
-impl fmt::Display for StackLine<'_> {
-    fn fmt<W: fmt::Write>(&self, f: &mut fmt::Formatter<W>) -> fmt::Result {
-        let StackLine(i, words) = *self;
-        write!(f, "stack {i}")?;
-        for e in words {
-            if *e == rules::NONE {
-                break;
-            }
-            write!(f, " {e}")?;
+// Task i: what it does, and what it holds.
+pub fn task_line(out: &mut Out, i: u64, t: Task)
+    ensures { PutsLine out.old.bytes.now out.new.bytes.now out.old.at (task_text i t) out.new.at }
+{
+    task_work(out, i, t);
+    task_holds(out, t);
+}
+
+// A stack's line: whose it is.
+pub fn stack_begins(out: &mut Out, i: u64)
+    ensures { Puts out.old.bytes.now out.new.bytes.now out.old.at (codes "stack " ++ decimal i) out.new.at }
+{
+    out.field(b"stack ", i);
+}
+
+// An entry on it.
+pub fn stack_entry(out: &mut Out, entry: u64)
+    ensures { Puts out.old.bytes.now out.new.bytes.now out.old.at (codes " " ++ decimal entry) out.new.at }
+{
+    out.field(b" ", entry);
+}
+
+// The line's end.
+pub fn stack_ends(out: &mut Out)
+    ensures { PutsLine out.old.bytes.now out.new.bytes.now out.old.at [] out.new.at }
+{
+    out.line(b"");
+}
+
+// The entries on task i's stack, the top last; the first word that is none ends them.
+pub fn stack_line(out: &mut Out, i: u64, words: &[u64])
+    ensures { PutsLine out.old.bytes.now out.new.bytes.now out.old.at (stack_text i words.now) out.new.at }
+{
+    stack_begins(out, i);
+    for e in words {
+        if *e == rules::NONE {
+            break;
         }
-        Ok(())
+        stack_entry(out, *e);
     }
+    stack_ends(out);
 }

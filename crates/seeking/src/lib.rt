@@ -1,11 +1,11 @@
 // Stages 1 to 3 and 16 to 18 (document 01, "Stages of a task"): locate, find and read, and the same again for a remove that has set its mark.
 #![tactic(auto)]
 
-ghost use Rattle.std.specs.Prelude.{◌≡◌, ◌<◌};
+ghost use Rattle.std.specs.Prelude.{◌≡◌, ℕ, ◌<◌, List};
 ghost use Rattle.rules.specs.declared.Write.TheVariants as write;
 ghost use Rattle.rules.specs.Words.{pick, inserts};
 ghost use Rattle.rules.specs.Stages.{keeps, moves, finishes_absent, locates, finds, reads, finds_again, reads_again};
-ghost use Rattle.rows.specs.Seen.{seen};
+ghost use Rattle.rows.specs.Rows.{tables};
 ghost use Rattle.outcome.specs.Lengths.{Holds};
 
 use outcome::{Read, finishes_absent, gives_back, inserts, moves, with_entry};
@@ -15,7 +15,7 @@ use rules::{Chunk, ChunkNo, Decision, Entry, EntryNo, HandleNo, NONE, Task, Writ
 // 1 and 16 locate
 pub fn locate(s: &Read, t: Task) -> Decision
     requires { t.stage < 22 }
-    ensures { result ≡ locates s.now.lent.z (seen s.now.lent) t }
+    ensures { (ts es vs ms : List ℕ) → result ≡ locates s.now.lent.z (tables s.now.lent.z s.now.lent.directory.now ts s.now.lent.chunks.now es vs ms) t }
 {
     let next = Task {
         stage: t.stage + 1,
@@ -32,7 +32,7 @@ pub fn locate(s: &Read, t: Task) -> Decision
 // 2 find
 pub fn find(s: &Lent, t: Task) -> Decision
     requires { t.chunk.0 < s.now.z.chunks }
-    ensures { result ≡ finds s.now.z (seen s.now) t }
+    ensures { (d ts vs ms : List ℕ) → result ≡ finds s.now.z (tables s.now.z d ts s.now.chunks.now s.now.entries.now vs ms) t }
 {
     let head = rows::chunk_at(s.z, s.chunks, t.chunk).head;
     match walks::find(s.z, s.entries, t.chunk, head, t.key) {
@@ -44,7 +44,7 @@ pub fn find(s: &Lent, t: Task) -> Decision
 // 3 read
 pub fn read(s: &Lent, t: Task) -> Decision
     requires { Holds s.now.z t }
-    ensures { result ≡ reads s.now.z (seen s.now) t }
+    ensures { (d ts cs vs ms : List ℕ) → result ≡ reads s.now.z (tables s.now.z d ts cs s.now.entries.now vs ms) t }
 {
     let old = rows::entry_at(s.z, s.entries, t.chunk, t.entry).handle;
     if (old.0 as usize) < s.z.handles {
@@ -75,7 +75,7 @@ fn goes_without(t: Task, stage: u64) -> Decision
 // 17 find again
 pub fn find_again(s: &Lent, t: Task) -> Decision
     requires { t.chunk.0 < s.now.z.chunks }
-    ensures { result ≡ finds_again s.now.z (seen s.now) t }
+    ensures { (d ts ms : List ℕ) → result ≡ finds_again s.now.z (tables s.now.z d ts s.now.chunks.now s.now.entries.now s.now.values.now ms) t }
 {
     let head = rows::chunk_at(s.z, s.chunks, t.chunk).head;
     match walks::find(s.z, s.entries, t.chunk, head, t.key) {
@@ -97,7 +97,7 @@ pub fn find_again(s: &Lent, t: Task) -> Decision
 // 18 read again
 pub fn read_again(s: &Lent, t: Task) -> Decision
     requires { Holds s.now.z t }
-    ensures { result ≡ reads_again s.now.z (seen s.now) t }
+    ensures { (d ts cs ms : List ℕ) → result ≡ reads_again s.now.z (tables s.now.z d ts cs s.now.entries.now s.now.values.now ms) t }
 {
     if rows::entry_at(s.z, s.entries, t.chunk, t.entry).handle == t.old {
         moves(Task { stage: 19, ..t }, Write::Nothing)

@@ -12,11 +12,14 @@ use rules::{Chunk, ChunkNo, EntryNo, Function, HandleNo, NONE, Operation, Sizes,
 fn held(how: How, size: usize, n: u64) -> bool
     ensures { result ≡ held_as (number how) size n }
 {
-    match how {
-        How::Never => n == NONE,
-        How::Perhaps => listed::in_table(size, n),
-        How::Always | How::Deleted => (n as usize) < size,
+    // By tests, since a match is made a jump through a table: one for each number of each task at work, in every call.
+    if how == How::Never {
+        return n == NONE;
     }
+    if how == How::Perhaps {
+        return listed::in_table(size, n);
+    }
+    (n as usize) < size
 }
 
 // The old handle is deleted where the list says so.
@@ -29,16 +32,14 @@ fn marked(how: How, marks: &[u64], h: HandleNo) -> bool
     }
 }
 
-// A flag is set as the list says; none is said to be deleted, and the rules have 3 for it.
+// A flag is set as the list says, never and always by their numbers; none is said to be deleted, and the rules have 3 for it.
 fn flagged(how: How, n: u64) -> bool
     ensures { result ≡ flag_as (number how) n }
 {
-    match how {
-        How::Never => n == 0,
-        How::Always => n == 1,
-        How::Perhaps => n <= 1,
-        How::Deleted => n == 3,
+    if how == How::Perhaps {
+        return n <= 1;
     }
+    n == how as u64
 }
 
 // The stage is one of the operation's.

@@ -1,9 +1,9 @@
 // The three groups of publish, swap and unpublish: stages 10 to 12, 13 to 15, 19 to 21.
-ghost use Rattle.std.specs.Prelude.{◌≡◌, ℕ, ◌<◌, ◌≤◌};
+ghost use Rattle.std.specs.Prelude.{◌≡◌, ℕ, List, ◌<◌, ◌≤◌};
 ghost use Rattle.rules.specs.declared.Sizes.{Sizes};
 ghost use Rattle.rules.specs.Tables.{Tables};
 ghost use Rattle.rules.specs.Stages.{decide, publishes, swaps, ends_insertion, ends_absent};
-ghost use Rattle.rows.specs.Seen.{seen};
+ghost use Rattle.rows.specs.Rows.{tables};
 ghost use Rattle.outcome.specs.Lengths.{Holds, Held};
 
 use outcome::{finishes, finishes_absent, gives_back, moves, restarts, seeks_again};
@@ -13,7 +13,7 @@ use rules::{Chunk, Decision, Entry, HandleNo, NONE, Operation, Report, Task, Wri
 // 10, 13, 19 publish
 pub fn publish(s: &Lent, t: Task) -> Decision
     requires { t.stage < 22 }
-    ensures { result ≡ publishes s.now.z (seen s.now) t }
+    ensures { (d ts es vs ms : List ℕ) → result ≡ publishes s.now.z (tables s.now.z d ts s.now.chunks.now es vs ms) t }
 {
     if rows::chunk_at(s.z, s.chunks, t.chunk).frozen == 0 {
         let published = Task {
@@ -33,7 +33,7 @@ pub fn publish(s: &Lent, t: Task) -> Decision
 // 11, 14, 20 swap
 pub fn swap(s: &Lent, t: Task, h: HandleNo) -> Decision
     requires { Holds s.now.z t × (t.stage < 22) }
-    ensures { result ≡ swaps s.now.z (seen s.now) t h }
+    ensures { (d ts cs vs ms : List ℕ) → result ≡ swaps s.now.z (tables s.now.z d ts cs s.now.entries.now vs ms) t h }
 {
     let stage = t.stage + 1;
     if rows::entry_at(s.z, s.entries, t.chunk, t.entry).handle != t.old {
@@ -77,7 +77,7 @@ pub fn end_absent(t: Task) -> Decision
 #[tactic(auto, unfolding(rules::specs::Stages::stage_does))]
 pub fn insertion(s: &Lent, t: Task) -> Decision
     requires { Held s.now.z t × (10 ≤ t.stage) × (t.stage ≤ 12) }
-    ensures { (n : ℕ) → result ≡ decide s.now.z (seen s.now) n t }
+    ensures { (n : ℕ) (d ts vs ms : List ℕ) → result ≡ decide s.now.z (tables s.now.z d ts s.now.chunks.now s.now.entries.now vs ms) n t }
 {
     match t.stage {
         10 => publish(s, t),
@@ -90,7 +90,7 @@ pub fn insertion(s: &Lent, t: Task) -> Decision
 #[tactic(auto, unfolding(rules::specs::Stages::stage_does))]
 pub fn absence(s: &Lent, t: Task) -> Decision
     requires { Held s.now.z t × (13 ≤ t.stage) × (t.stage ≤ 15) }
-    ensures { (n : ℕ) → result ≡ decide s.now.z (seen s.now) n t }
+    ensures { (n : ℕ) (d ts vs ms : List ℕ) → result ≡ decide s.now.z (tables s.now.z d ts s.now.chunks.now s.now.entries.now vs ms) n t }
 {
     match t.stage {
         13 => publish(s, t),
@@ -103,7 +103,7 @@ pub fn absence(s: &Lent, t: Task) -> Decision
 #[tactic(auto, unfolding(rules::specs::Stages::stage_does))]
 pub fn removal(s: &Lent, t: Task) -> Decision
     requires { Held s.now.z t × (19 ≤ t.stage) × (t.stage ≤ 21) }
-    ensures { (n : ℕ) → result ≡ decide s.now.z (seen s.now) n t }
+    ensures { (n : ℕ) (d ts ms : List ℕ) → result ≡ decide s.now.z (tables s.now.z d ts s.now.chunks.now s.now.entries.now s.now.values.now ms) n t }
 {
     match t.stage {
         19 => publish(s, t),

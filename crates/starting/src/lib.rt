@@ -14,8 +14,8 @@ ghost use Rattle.starting.specs.Kinds.{kind_of};
 
 use rules::{Function, Operation, Refusal, Report, Sizes, Task};
 
-// Upsert and compute use a function, one of 1 to 3, or get refusal 5; no other keeps any.
-pub fn kept_function(op: Operation, f: u64) -> Result<u64, Refusal>
+// Upsert and compute use a function, one of 1 to 3, or get refusal 5.
+pub fn known_function(op: Operation, f: u64) -> Result<u64, Refusal>
     ensures { result ≡ pick (uses_function (kind_of op) and (ltb f 1 or ltb 3 f)) (Err NoOperation) (Ok (pick (uses_function (kind_of op)) f 0)) }
 {
     match op {
@@ -34,42 +34,59 @@ pub fn forwards(op: Operation, k: u64, a: u64) -> Result<(), Refusal>
     }
 }
 
-// A scan starts at 22, a scan down at 23, and all others at 1.
-pub fn first_stage(op: Operation) -> u64
-    ensures { result ≡ first_stage (kind_of op) }
+// A scan starts at 22, a scan down at 23, and all others at 1, known or not.
+pub fn first_stage(op: u64) -> u64
+    ensures { result ≡ first_stage op }
 {
-    match op {
-        Operation::Scan => 22,
-        Operation::ScanDown => 23,
+    match Operation::try_from(op) {
+        Ok(Operation::Scan) => 22,
+        Ok(Operation::ScanDown) => 23,
         _ => 1,
     }
 }
 
-// A get and a remove use no argument.
-pub fn kept_argument(op: Operation, a: u64) -> u64
-    ensures { result ≡ pick (eqb (kind_of op) get or eqb (kind_of op) remove) 0 a }
+// Upsert and compute keep their function, and no other keeps any.
+pub fn kept_function(op: u64, f: u64) -> u64
+    ensures { result ≡ pick (uses_function op) f 0 }
 {
-    match op {
-        Operation::Get | Operation::Remove => 0,
+    match Operation::try_from(op) {
+        Ok(Operation::Upsert | Operation::Compute) => f,
+        _ => 0,
+    }
+}
+
+// A get and a remove use no argument.
+pub fn kept_argument(op: u64, a: u64) -> u64
+    ensures { result ≡ pick (eqb op get or eqb op remove) 0 a }
+{
+    match Operation::try_from(op) {
+        Ok(Operation::Get | Operation::Remove) => 0,
         _ => a,
     }
 }
 
-// The row of an operation that starts, or refusals 5 and 4; arguments that it does not use are kept as 0.
-pub fn started(op: u64, k: u64, a: u64, f: u64) -> Result<Task, Refusal>
+// The row of an operation that starts; arguments that it does not use are kept as 0.
+pub fn started(op: u64, k: u64, a: u64, f: u64) -> Task
+    ensures { (z : Sizes) (s : Tables) → result ≡ started z s op k a f }
+{
+    Task {
+        stage: first_stage(op),
+        operation: op,
+        function: kept_function(op, f),
+        key: k,
+        argument: kept_argument(op, a),
+        ..rows::idle_task()
+    }
+}
+
+// The same row, or refusals 5 and 4.
+pub fn asked(op: u64, k: u64, a: u64, f: u64) -> Result<Task, Refusal>
     ensures { (z : Sizes) (s : Tables) → result ≡ pick (ltb op 1 or ltb 8 op or (uses_function op and (ltb f 1 or ltb 3 f))) (Err NoOperation) (pick (is_scan op and ltb a k) (Err ScanBackwards) (Ok (started z s op k a f))) }
 {
     let operation = Operation::try_from(op)?;
-    let function = kept_function(operation, f)?;
+    known_function(operation, f)?;
     forwards(operation, k, a)?;
-    Ok(Task {
-        stage: first_stage(operation),
-        operation: op,
-        function,
-        key: k,
-        argument: kept_argument(operation, a),
-        ..rows::idle_task()
-    })
+    Ok(started(op, k, a, f))
 }
 
 // Refusals 1, 2, 5 and 4, or the task's row is that of the operation.
@@ -93,7 +110,7 @@ pub fn start(
     if t.stage != 0 {
         return Err(Refusal::TaskAtWork);
     }
-    let row = started(op, k, a, f)?;
+    let row = asked(op, k, a, f)?;
     rows::put_task_row(tasks, i, row);
     Ok(Report::Moved)
 }

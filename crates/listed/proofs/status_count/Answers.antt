@@ -1,14 +1,15 @@
-use Rattle.std.proofs.Common.{rules}
-use mathlib.Core.Path.{◌∙◌}
-use native.Mathlib.Nat.{sub-zero}
-use lib.Dec.{eqb}
-use Rattle.std.proofs.lemmas.Iterator.{YieldsList-from_range}
-use Rattle.std.proofs.lemmas.Iterator.Consumers.{YieldsList-from_filter, count_from_yields_List, YieldsList-at}
+use native.Mathlib.Omega.{arith}
 use Rattle.rows.specs.Rows.{chunk_of}
-use Rattle.listed.proofs.Chain.{count-chosen}
+use Rattle.listed.proofs.Chain.{count-end, count-one, count_none}
+use Rattle.listed.proofs.status_count.Goals.{then-chunk_row-status, else-chunk_row-status}
 use Rattle.listed.proofs.status_count.Goals as goal
 
-pub returns : goal.returns
-returns c = let z = c.args.z in
-    count_from_yields_List _ _ c.count.ensures.ran (YieldsList-from_filter _ (λ i. eqb (chunk_of c.args.chunks.now i).status c.args.status) (YieldsList-at c.filter.ensures.source (YieldsList-from_range 0 z.chunks z.chunks (cc) (sub-zero _))) c.filter.ensures.closure (λ x b q h. search rules))
-    ∙ count-chosen c.args.status (chunk_of c.args.chunks.now) 0 z.chunks
+pub loop-i-preserved : goal.loop-i-preserved
+loop-i-preserved c =
+    elim c.if-chunk_row-status.branch [
+      | then-chunk_row-status w ↦ (omega (arith, c.loop-i.invariant.0, w.n-is, count-one c.args.status (chunk_of c.args.chunks.now) c.args.z.chunks c.loop-i.i c.loop-i-test.true _ c.chunk_row.ensures w.if-chunk_row-status.true), omega (arith, w.n-is))
+      | else-chunk_row-status w ↦ (omega (arith, c.loop-i.invariant.0, w.n-is, count_none c.args.status (chunk_of c.args.chunks.now) c.args.z.chunks c.loop-i.i c.loop-i-test.true _ c.chunk_row.ensures w.if-chunk_row-status.false), omega (arith, w.n-is))
+    ]
+
+pub returns-clause-count : goal.returns-clause-count
+returns-clause-count c = omega (arith, c.loop-i.invariant.0, count-end c.args.status (chunk_of c.args.chunks.now) c.args.z.chunks c.loop-i.i c.loop-i-test.false)

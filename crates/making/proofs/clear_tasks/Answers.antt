@@ -6,4 +6,4 @@ use Rattle.making.proofs.clear_tasks.Goals as goal
 pub returns : goal.returns
 returns c =
     let z = c.args.z in
-    (tasks-kept z.tasks _ _ _ (omega arith) c.fill.ensures ∙ c.put_rows.ensures, stacks-empty z _ _ (omega arith) c.fill.ensures)
+    (tasks-kept z.tasks _ _ _ (omega arith) c.fill.ensures ∙ c.idle_tasks.ensures.0, stacks-empty z _ _ (omega arith) c.fill.ensures)

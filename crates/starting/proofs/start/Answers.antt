@@ -15,12 +15,12 @@ pub returns-in_err-row : goal.returns-in_err-row
 returns-in_err-row c = λ d cs es vs ms.
     let a = c.args in
     let s = tables a.z d a.tasks.now cs es vs ms in
-    let e = starts-idle a.z s a.n a.op a.k a.a a.f _ c.if-z-i.false (c.task_row-t.ensures ∙ sym (row_read (task_of a.tasks.now) _ _ idle_task c.if-z-i.false)) c.if-t-ne0.false _ (c.started.ensures a.z s) in
+    let e = starts-idle a.z s a.n a.op a.k a.a a.f _ c.if-z-i.false (c.task_row-t.ensures ∙ sym (row_read (task_of a.tasks.now) _ _ idle_task c.if-z-i.false)) c.if-t-ne0.false _ (c.asked.ensures a.z s) in
     rw (e, c.in_err-row.was) (search rules)
 
 pub returns : goal.returns
 returns c = λ d cs es vs ms.
     let a = c.args in
     let s = tables a.z d a.tasks.now cs es vs ms in
-    let e = starts-idle a.z s a.n a.op a.k a.a a.f _ c.if-z-i.false (c.task_row-t.ensures ∙ sym (row_read (task_of a.tasks.now) _ _ idle_task c.if-z-i.false)) c.if-t-ne0.false _ (c.started.ensures a.z s) ∙ ap (placed s a.n) c.in_ok-row.was in
+    let e = starts-idle a.z s a.n a.op a.k a.a a.f _ c.if-z-i.false (c.task_row-t.ensures ∙ sym (row_read (task_of a.tasks.now) _ _ idle_task c.if-z-i.false)) c.if-t-ne0.false _ (c.asked.ensures a.z s) ∙ ap (placed s a.n) c.in_ok-row.was in
     rw (c.put_task_row.ensures.rows a.z.tasks, c.put_task_row.ensures.stacks a.z c.if-z-i.false) (sym e)

@@ -1,0 +1,7 @@
+use mathlib.Core.List.{append_assoc}
+use Rattle.std.proofs.Common.{rules}
+use Rattle.script.proofs.Putting.{puts-more, puts-same}
+use Rattle.script.proofs.tables.task_work.Goals as goal
+
+pub returns : goal.returns
+returns c = puts-same (puts-more c.field.ensures (puts-more c.field-2.ensures (puts-more c.field-3.ensures (puts-more c.field-4.ensures (puts-more c.field-5.ensures c.field-6.ensures))))) (search (rules, append_assoc))
