@@ -49,7 +49,8 @@ impl<'a> Out<'a> {
     #[inline(always)]
     fn lay(&mut self, text: &[u8])
         requires { self.old.at + length text.now ≤ length self.old.bytes.now }
-        ensures { Puts self.old.bytes.now self.new.bytes.now self.old.at text.now self.new.at }
+        ensures put { Puts self.old.bytes.now self.new.bytes.now self.old.at text.now self.new.at }
+        ensures same_reference { self.new.bytes.ghost_name ≡ self.old.bytes.ghost_name }
     {
         let end = self.at + text.len();
         self.bytes[self.at..end].copy_from_slice(text);
@@ -58,7 +59,8 @@ impl<'a> Out<'a> {
 
     // Puts as many of the bytes as find room.
     fn lay_some(&mut self, text: &[u8])
-        ensures { Puts self.old.bytes.now self.new.bytes.now self.old.at text.now self.new.at }
+        ensures put { Puts self.old.bytes.now self.new.bytes.now self.old.at text.now self.new.at }
+        ensures same_reference { self.new.bytes.ghost_name ≡ self.old.bytes.ghost_name }
     {
         let count = text.len().min(self.room());
         self.lay(&text[..count]);
@@ -67,7 +69,8 @@ impl<'a> Out<'a> {
     // Puts bytes; what finds no room is left out. In place, so that a text whose length is known is no call.
     #[inline(always)]
     pub fn put(&mut self, text: &[u8])
-        ensures { Puts self.old.bytes.now self.new.bytes.now self.old.at text.now self.new.at }
+        ensures put { Puts self.old.bytes.now self.new.bytes.now self.old.at text.now self.new.at }
+        ensures same_reference { self.new.bytes.ghost_name ≡ self.old.bytes.ghost_name }
     {
         if text.len() <= self.room() {
             self.lay(text);
